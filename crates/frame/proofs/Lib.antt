@@ -1,0 +1,4 @@
+pub mod Laws
+mod Bytes
+pub mod RoundTrip
+pub mod Told
