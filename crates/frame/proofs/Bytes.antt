@@ -1,19 +1,20 @@
 -- What the functions' proofs need of bytes: header byte 0 by shifts and masks, and parts put one behind the other.
-use mathlib.Core.Path.{_≡_, _∙_}
-use mathlib.Core.Bool.{Bool, true, false}
+use mathlib.Core.Path.{_≡_, refl, _∙_}
+use mathlib.Core.Bool.{Bool, true, false, _&&_, false≢true}
 use mathlib.Core.List.{List, _++_, append-assoc}
 use Prim.Native.Nat.{ℕ, _+_, _-_, _*_, _/_, _%_, _^_, _<_, _≤_}
 use native.Mathlib.Omega.{arith}
 use native.Mathlib.Nat.{zero-add}
 use lib.Bits.{bitOr, bitAnd, or-shifted, and-mask}
-use lib.Dec.{eqb}
+use borrow.Author.Tests.{leb-true}
+use lib.Dec.{eqb, leb}
 use lib.ListN.{length, getD, take, drop, length-append, length-drop}
 use lib.Seq.{take-all}
 use mir.Val.{boolByte}
 use Rattle.wire.specs.Wire.{number, part, putIn}
 use Rattle.wire.proofs.Laws.{number-one, put-fits, put-next}
 use Rattle.frame.specs.Header.{bit, headerOf}
-use Rattle.frame.specs.Frame.{atStart}
+use Rattle.frame.specs.Frame.{atStart, hasRoom}
 use Rattle.frame.specs.declared.Header.{Header}
 
 -- the shifted flags and the masked hop count stand side by side
@@ -56,3 +57,15 @@ four-put out a b c d ea eb ec h =
       two-put out (a ++ b ++ c) d 18 (omega arith) (omega arith),
       append-assoc a b c,
     )
+
+both : (a b : Bool) → (a && b) ≡ true → (a ≡ true) × (b ≡ true)
+both true b h = (refl, h)
+both false b h = absurd (false≢true h)
+
+-- what having room says in numbers
+pub room-told : (from : ℕ) (frame : List ℕ) (room : ℕ) → hasRoom from frame room ≡ true → (12 ≤ from) × (from ≤ length frame) × (18 + (length frame - from) ≤ room)
+unfolding hasRoom
+room-told from frame room e =
+    let p = both (leb 12 from && leb from (length frame)) (leb (18 + (length frame - from)) room) e in
+    let q = both (leb 12 from) (leb from (length frame)) (p .0) in
+    (leb-true 12 from (q .0), leb-true from (length frame) (q .1), leb-true (18 + (length frame - from)) room (p .1))

@@ -5,12 +5,32 @@ use mathlib.Core.List.{List}
 use Prim.Native.Nat.{ℕ, _+_, _-_, _≤_, _<_, _^_}
 use native.Mathlib.Omega.{arith}
 use lib.Dec.{eqb, ltb, leb}
-use lib.ListN.{length}
-use borrow.Author.Tests.{le-ltb, lt-leb, eq-eqb, ne-eqb, ltb-false, leb-false, eqb-true, eqb-false, not-false}
+use lib.ListN.{length, take, drop, length-take}
+use lib.Seq.{take-at, drop-at}
+use Rattle.frame.specs.Header.{headerOf}
+use borrow.Author.Tests.{le-leb, le-ltb, lt-leb, eq-eqb, ne-eqb, ltb-false, leb-false, eqb-true, eqb-false, not-false}
 use Rattle.refusal.specs.Exact.{Numbered}
 use Rattle.refusal.proofs.Laws.{inTurn, in-order, none-holds, inside, not-outside, neither}
 use Rattle.frame.specs.declared.Header.{Header}
-use Rattle.frame.specs.Frame.{ourType, typeOf, oldTypeOf, headerIn, tagCauses, stripCauses, tagRefusal, stripRefusal}
+use Rattle.frame.specs.Frame.{ourType, atStart, hasRoom, tagBefore, tagInto, tagged, stripped, typeOf, oldTypeOf, headerIn, tagCauses, stripCauses, tagRefusal, stripRefusal}
+
+-- where there is room the frame with its tag is written
+pub into-room : (from : ℕ) (frame : List ℕ) (h : Header) (out : List ℕ) → 12 ≤ from → from ≤ length frame → 18 + (length frame - from) ≤ length out
+    → tagInto from frame h out ≡ atStart (tagBefore from frame h) out
+unfolding hasRoom
+into-room from frame h out a b c = rw (le-leb 12 from a, le-leb from (length frame) b, le-leb (18 + (length frame - from)) (length out) c)
+
+-- a frame that has a tag gets another header
+pub new-header : (frame : List ℕ) (h : Header) → 18 ≤ length frame → tagBefore 18 frame h ≡ tagged (stripped frame) h
+unfolding tagged stripped
+new-header frame h long =
+    let head : length (take 12 frame) ≡ 12 = simp length-take (omega arith) in
+    rw (take-at (take 12 frame) (drop 18 frame) 12 head, drop-at (take 12 frame) (drop 18 frame) 12 head)
+
+-- a hop count that was read has six bits
+pub hc-small : (bs : List ℕ) → headerOf bs .hc < 64
+unfolding headerOf
+hc-small bs = omega arith
 
 -- what an accepted tagging knows of its arguments
 pub record Taggable (frame : List ℕ) (h : Header) (room : ℕ) : Type 0 where

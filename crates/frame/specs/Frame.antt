@@ -1,9 +1,9 @@
 -- Document 01, "Tagged frames", and the paragraph below the refusal table: tagging and stripping.
 -- A frame is a list of bytes; `room` is the length of the lent output.
 use Prim.Native.Nat.{ℕ, _+_, _-_}
-use mathlib.Core.Bool.{Bool, not, _&&_}
+use mathlib.Core.Bool.{Bool, cond, not, _&&_}
 use mathlib.Core.List.{List, [], _∷_, _++_}
-use lib.Dec.{eqb, ltb}
+use lib.Dec.{eqb, ltb, leb}
 use lib.ListN.{length, take, drop}
 use Rattle.refusal.specs.Refusal.{Cause, when, first, outside, Told, answered, leaves}
 use Rattle.wire.specs.Wire.{number, bytesOf, part}
@@ -18,7 +18,13 @@ use Rattle.frame.specs.declared.Stripping.the-variants.{Refused as NotSt
 abbrev pub ourType : ℕ
 ourType = 0x88B5
 
--- destination and source, six bytes each, stand before a frame's type
+-- a frame is destination 6, source 6, type 2, rest
+abbrev pub destinationOf : List ℕ → ℕ
+destinationOf frame = number (part 0 6 frame)
+
+abbrev pub sourceOf : List ℕ → ℕ
+sourceOf frame = number (part 6 6 frame)
+
 abbrev pub typeOf : List ℕ → ℕ
 typeOf frame = number (part 12 2 frame)
 
@@ -34,9 +40,13 @@ taggedTwice frame = eqb (typeOf frame) ourType && eqb (oldTypeOf frame) ourType
 abbrev pub headerIn : List ℕ → Header
 headerIn tagged = headerOf (drop 14 tagged)
 
+-- a frame with our type and a header behind its addresses, and then what stands from a place on
+abbrev pub tagBefore : ℕ → List ℕ → Header → List ℕ
+tagBefore from frame h = take 12 frame ++ (bytesOf 2 ourType ++ headerBytes h) ++ drop from frame
+
 -- the tagged frame: six bytes more, our type and the header, before the old type
 unfoldable pub tagged : List ℕ → Header → List ℕ
-tagged frame h = take 12 frame ++ (bytesOf 2 ourType ++ headerBytes h) ++ drop 12 frame
+tagged frame h = tagBefore 12 frame h
 
 -- the host frame: those six bytes taken away
 unfoldable pub stripped : List ℕ → List ℕ
@@ -71,6 +81,14 @@ stripRefusal frame room = first (stripCauses frame room)
 -- bytes at the output's start, and nothing changed behind them
 abbrev pub atStart : List ℕ → List ℕ → List ℕ
 atStart bytes out = bytes ++ drop (length bytes) out
+
+-- a tag is put in behind the addresses, and what results fits into so much room
+unfoldable pub hasRoom : ℕ → List ℕ → ℕ → Bool
+hasRoom from frame room = leb 12 from && leb from (length frame) && leb (18 + (length frame - from)) room
+
+-- such a frame at the output's start, where it has room
+abbrev pub tagInto : ℕ → List ℕ → Header → List ℕ → List ℕ
+tagInto from frame h out = cond (hasRoom from frame (length out)) (atStart (tagBefore from frame h) out) out
 
 -- what tagging answers: the tagged frame's length
 abbrev pub tagAnswer : List ℕ → Header → ℕ → Told

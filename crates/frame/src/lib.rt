@@ -8,7 +8,7 @@ ghost use mathlib.Core.Path.{_≡_};
 ghost use Prim.Native.Nat.{_+_, _-_, _≤_};
 ghost use lib.ListN.{length};
 ghost use Rattle.frame.specs.Header.{byte0, headerBytes, headerOf, tooLarge};
-ghost use Rattle.frame.specs.Frame.{typeOf, taggedTwice, headerIn, atStart, tagged, stripped, tagRefusal, stripRefusal, tagAnswer, tagOutput, stripAnswer, stripOutput, toldTagging, toldStripping};
+ghost use Rattle.frame.specs.Frame.{destinationOf, sourceOf, typeOf, taggedTwice, headerIn, atStart, stripped, hasRoom, tagInto, tagRefusal, stripRefusal, tagAnswer, tagOutput, stripAnswer, stripOutput, toldTagging, toldStripping};
 use refusal::is_outside;
 use refusal::or_when;
 
@@ -30,6 +30,12 @@ impl Frame {
     pub const TAG: usize = 6;
 
     pub const OUR_TYPE: u64 = 0x88B5;
+
+    pub const DESTINATION: usize = 0;
+
+    pub const SOURCE: usize = 6;
+
+    pub const ADDRESS: usize = 6;
 
     pub const TYPE: usize = 12;
 
@@ -104,14 +110,26 @@ impl Header {
     }
 }
 
-fn type_of(frame: &[u8]) -> u64
+pub fn destination_of(frame: &[u8]) -> u64
+    ensures { λ r. ⌜ r ≡ destinationOf (now (frame .entry)) ⌝ }
+{
+    wire::number_at(frame, Frame::DESTINATION, Frame::ADDRESS)
+}
+
+pub fn source_of(frame: &[u8]) -> u64
+    ensures { λ r. ⌜ r ≡ sourceOf (now (frame .entry)) ⌝ }
+{
+    wire::number_at(frame, Frame::SOURCE, Frame::ADDRESS)
+}
+
+pub fn type_of(frame: &[u8]) -> u64
     ensures { λ r. ⌜ r ≡ typeOf (now (frame .entry)) ⌝ }
 {
     wire::number_at(frame, Frame::TYPE, 2)
 }
 
 // Whether our type stands behind our tag once more.
-fn is_tagged_twice(frame: &[u8]) -> bool
+pub fn is_tagged_twice(frame: &[u8]) -> bool
     ensures { λ r. ⌜ r ≡ taggedTwice (now (frame .entry)) ⌝ }
 {
     if type_of(frame) != Frame::OUR_TYPE {
@@ -149,17 +167,33 @@ fn tag_refusal(frame: &[u8], h: Header, room: usize) -> u8
     or_when(r, 9, room < n + Frame::TAG)
 }
 
-// The tagged frame, at the output's start.
-fn write_tagged(frame: &[u8], h: Header, out: &mut [u8])
-    requires { ⌜ (12 ≤ length (now frame)) × (length (now frame) + 6 ≤ length (now out)) ⌝ }
-    ensures { λ _. ⌜ now (out .exit) ≡ atStart (tagged (now (frame .entry)) h) (now (out .entry)) ⌝ }
+// Whether a tag can be put in, and what results has room.
+fn has_room(frame: &[u8], from: usize, room: usize) -> bool
+    ensures { λ r. ⌜ r ≡ hasRoom from (now (frame .entry)) room ⌝ }
 {
-    let our_type = [0x88u8, 0xB5];
-    let header = h.pack();
-    wire::put_at(out, 0, &frame[..Frame::TYPE]);
-    wire::put_at(out, Frame::TYPE, &our_type);
-    wire::put_at(out, Frame::HEADER, &header);
-    wire::put_at(out, Frame::OLD_TYPE, &frame[Frame::TYPE..]);
+    if from < Frame::TYPE {
+        return false;
+    }
+    if frame.len() < from {
+        return false;
+    }
+    Frame::OLD_TYPE + (frame.len() - from) <= room
+}
+
+// A frame's addresses, our type, a header, and what stands from a place on, at the output's start
+// if there is room: from the type on that tags a frame, from the old type on it gives a tagged
+// frame a new header.
+pub fn write_tagged(frame: &[u8], from: usize, h: Header, out: &mut [u8])
+    ensures { λ _. ⌜ now (out .exit) ≡ tagInto from (now (frame .entry)) h (now (out .entry)) ⌝ }
+{
+    if has_room(frame, from, out.len()) {
+        let our_type = [0x88u8, 0xB5];
+        let header = h.pack();
+        wire::put_at(out, 0, &frame[..Frame::TYPE]);
+        wire::put_at(out, Frame::TYPE, &our_type);
+        wire::put_at(out, Frame::HEADER, &header);
+        wire::put_at(out, Frame::OLD_TYPE, &frame[from..]);
+    }
 }
 
 // The frame with a header, for a cable between switches.
@@ -171,7 +205,7 @@ pub fn tag(frame: &[u8], h: Header, out: &mut [u8]) -> Tagging
     if n != 0 {
         return Tagging::Refused(n);
     }
-    write_tagged(frame, h, out);
+    write_tagged(frame, Frame::TYPE, h, out);
     Tagging::Tagged(frame.len() + Frame::TAG)
 }
 

@@ -6,8 +6,12 @@ use native.Mathlib.Nat.{pow-suc, one-le-pow, mul-assoc, mul-comm, add-mul, add-a
 use native.Mathlib.Omega.{arith}
 use lib.ListN.{length, getD, take, drop, length-append, length-take, length-drop}
 use lib.Seq.{take-at, drop-at, drop-drop}
-use borrow.Author.Tests.{le-leb}
+use mathlib.Core.Bool.{true, not, _&&_, and-eq-true-iff}
+use mathlib.Core.Logic.{_↔_}
+use lib.Dec.{eqb, ltb}
+use borrow.Author.Tests.{le-leb, lt-ltb, eq-eqb, ne-eqb, ltb-true, eqb-true, eqb-false, not-true}
 use lib.Arith.{digits-lt, digits-div, mod-mul}
+use Rattle.wire.specs.Address.{groupBit, Source, isSource}
 use Rattle.wire.specs.Wire.{number, numberAfter, bytesOf, part, put, putIn, AreBytes}
 
 pub bytes-long : (k n : ℕ) → length (bytesOf k n) ≡ k
@@ -102,3 +106,14 @@ byte-at [] h zero = omega arith
 byte-at [] h (suc at) = omega arith
 byte-at (b ∷ l) h zero = h .0
 byte-at (b ∷ l) h (suc at) = byte-at l (h .1) at
+
+-- the test of an address is true exactly where it can be a source
+pub source-iff : (x : ℕ) → (isSource x ≡ true) ↔ Source x
+unfolding isSource
+source-iff x = (tested, λ s. rw (ne-eqb x 0 (s .nonzero), lt-ltb x (2 ^ 48) (s .below), eq-eqb (groupBit x) 0 (s .single)))
+  where
+    tested : (not (eqb x 0) && ltb x (2 ^ 48) && eqb (groupBit x) 0) ≡ true → Source x
+    tested e =
+        let (a, group) = and-eq-true-iff (not (eqb x 0) && ltb x (2 ^ 48)) (eqb (groupBit x) 0) .0 e in
+        let (some, size) = and-eq-true-iff (not (eqb x 0)) (ltb x (2 ^ 48)) .0 a in
+        record { nonzero = eqb-false x 0 (not-true (eqb x 0) some); below = ltb-true x (2 ^ 48) size; single = eqb-true (groupBit x) 0 group }

@@ -1,4 +1,4 @@
-// Numbers on the wire: high byte first, at every width. Addresses, nonces, salts, lengths and
+// Numbers on the wire: high byte first, at every width, and which of them are source addresses. Addresses, nonces, salts, lengths and
 // places are all written and read by two definitions, `bytesOf` and `number`, which undo each
 // other; a lent buffer is changed only by putting bytes from a place on.
 //
@@ -9,6 +9,7 @@ ghost use mathlib.Core.Path.{_≡_};
 ghost use Prim.Native.Nat.{_<_, _^_, min};
 ghost use lib.ListN.{length};
 ghost use Rattle.wire.specs.Wire.{number, part, putIn};
+ghost use Rattle.wire.specs.Address.{isSource};
 
 // A byte as a wider number: asks the caller only for the index, not for the byte's range.
 pub fn wide(b: u8) -> u64
@@ -63,4 +64,23 @@ pub fn put_at(buffer: &mut [u8], at: usize, bytes: &[u8])
         buffer[at + i] = bytes[i];
         i += 1;
     }
+}
+
+// The least number that six bytes don't write.
+pub const ADDRESS_BOUND: u64 = 0x1_0000_0000_0000;
+
+// Where an address has its group bit, the lowest of its first byte.
+const GROUP_PLACE: u32 = 40;
+
+// Whether an address can be a source: six bytes, neither zero nor group.
+pub fn is_source(address: u64) -> bool
+    ensures { λ r. ⌜ r ≡ isSource address ⌝ }
+{
+    if address == 0 {
+        return false;
+    }
+    if ADDRESS_BOUND <= address {
+        return false;
+    }
+    (address >> GROUP_PLACE) % 2 == 0
 }
