@@ -105,3 +105,16 @@ module _ {r n : ℕ} (e : r ≡ n) (none : r ≡ 0) where
 
   pub accepted-leaves : {A : Type 0} (old new : A) → new ≡ leaves n old new
   accepted-leaves old new = rw (← e, none)
+
+-- causes behind others: the first of those in front decides, and where none of them holds the first of the others
+pub first-front : (n : ℕ) (front back : List Cause) → first front ≡ n → (n ≡ 0 → ⊥) → first (front ++ back) ≡ n
+first-front n [] back e some = absurd (some (sym e))
+first-front n (c ∷ front) back e some = by-test (c .holds) e (λ q. first-front n front back q some)
+  where
+    by-test : (b : Bool) → cond b (c .number) (first front) ≡ n → (first front ≡ n → first (front ++ back) ≡ n) → cond b (c .number) (first (front ++ back)) ≡ n
+    by-test true q go = q
+    by-test false q go = go q
+
+pub first-behind-none : (front back : List Cause) → NoneHolds front → first (front ++ back) ≡ first back
+first-behind-none [] back none = refl
+first-behind-none (c ∷ front) back none = rw (none .0) (first-behind-none front back (none .1))

@@ -1,0 +1,4 @@
+mod Output
+pub mod Refusals
+pub mod Rows
+mod Steps

@@ -1,0 +1,149 @@
+-- Document 01, "One step": its refusals, and what it leaves of switch, filter and output. `room` is the output's length.
+use Prim.Native.Nat.{ℕ, _+_, _-_, _≤_}
+use mathlib.Core.Bool.{Bool, true, false, cond, not, _&&_}
+use mathlib.Core.Path.{_≡_}
+use mathlib.Core.List.{List, [], _∷_, _++_}
+use lib.Dec.{eqb, ltb, leb}
+use lib.ListN.{length}
+use Rattle.refusal.specs.Refusal.{Cause, when, first, outside, Told, answered, leaves}
+use Rattle.table.specs.declared.Table.{Table}
+use Rattle.wire.specs.Address.{isSource}
+use Rattle.frame.specs.declared.Header.{Header}
+use Rattle.frame.specs.Header.{bit, headerValues}
+use Rattle.frame.specs.Frame.{ourType, typeOf, taggedTwice, headerIn, sourceOf, tagged, stripped, atStart}
+use Rattle.rules.specs.Mask.{names}
+use Rattle.head.specs.Switch.{switchCauses}
+use Rattle.rules.specs.Rules.{onHostPort, rule1, nonceOn, Ruled, rules}
+use Rattle.rules.specs.declared.Setup.{Setup}
+use Rattle.head.specs.declared.Switch.{Switch}
+use Rattle.rules.specs.declared.Send.{Send}
+use Rattle.rules.specs.declared.Report.{Report}
+use Rattle.head.specs.declared.Answer.{Answer}
+use Rattle.head.specs.declared.Answer.the-variants.{Refused, Done}
+use Rattle.head.specs.declared.Sending.{Sending}
+use Rattle.head.specs.declared.Sending.the-variants.{Nothing, Copies}
+use Rattle.rules.specs.declared.Verdict.{Verdict}
+use Rattle.rules.specs.declared.Verdict.the-variants.{X, D, G, E, F, N, B, H, U}
+
+-- ---- Refusals
+
+-- 4: length not 60..1,514 (host port) or 66..1,520 (switch port)
+abbrev pub badLength : Bool → ℕ → Bool
+badLength host n = cond host (outside 60 1514 n) (outside 66 1520 n)
+
+-- 6: host frame of type 0x88B5, or a tagged frame whose old type is 0x88B5 too
+abbrev pub tagInside : Bool → List ℕ → Bool
+tagInside host frame = cond host (eqb (typeOf frame) ourType) (taggedTwice frame)
+
+-- 7: type not 0x88B5 on a switch port
+abbrev pub lacksTag : Bool → List ℕ → Bool
+lacksTag host frame = not host && not (eqb (typeOf frame) ourType)
+
+-- 8: received HC is 0
+abbrev pub noHops : Bool → List ℕ → Bool
+noHops host frame = not host && eqb (headerIn frame .hc) 0
+
+-- 9: output shorter than the tagged frame
+abbrev pub tooShort : Bool → ℕ → ℕ → Bool
+tooShort host n room = cond host (ltb room (n + 6)) (ltb room n)
+
+-- refusals 2 to 9
+abbrev pub frameCauses : Setup → ℕ → List ℕ → ℕ → List Cause
+frameCauses s port frame room =
+    when 2 (leb (s .ports) port)
+    ∷ when 3 (not (names (s .live) port))
+    ∷ when 4 (badLength (onHostPort s port) (length frame))
+    ∷ when 5 (not (isSource (sourceOf frame)))
+    ∷ when 6 (tagInside (onHostPort s port) frame)
+    ∷ when 7 (lacksTag (onHostPort s port) frame)
+    ∷ when 8 (noHops (onHostPort s port) frame)
+    ∷ when 9 (tooShort (onHostPort s port) (length frame) room)
+    ∷ []
+
+-- a step checks 1 to 9 in that order
+unfoldable pub refusal : Switch → List ℕ → ℕ → List ℕ → ℕ → ℕ
+refusal s f port frame room = first (switchCauses s f ++ frameCauses (s .setup) port frame room)
+
+-- the same without 1, for a switch and a filter that are known to be well-formed
+unfoldable pub refusalBut1 : Setup → ℕ → List ℕ → ℕ → ℕ
+refusalBut1 s port frame room = first (frameCauses s port frame room)
+
+-- ---- The paper's letter and values of each verdict: mask and header are 0 after a drop
+
+abbrev pub sendingOf : Verdict → Sending
+sendingOf X = Nothing
+sendingOf D = Nothing
+sendingOf G = Nothing
+sendingOf E = Nothing
+sendingOf (F s) = Copies s
+sendingOf (N s) = Copies s
+sendingOf (B s) = Copies s
+sendingOf (H s) = Copies s
+sendingOf (U s) = Copies s
+
+abbrev pub letterOf : Verdict → ℕ
+letterOf X = 0x58
+letterOf D = 0x44
+letterOf G = 0x47
+letterOf E = 0x45
+letterOf (F s) = 0x46
+letterOf (N s) = 0x4E
+letterOf (B s) = 0x42
+letterOf (H s) = 0x48
+letterOf (U s) = 0x55
+
+abbrev pub noHeader : Header
+noHeader = record { l = false; f = false; hc = 0; nonce = 0 }
+
+abbrev pub sentBy : Sending → Send
+sentBy Nothing = record { mask = 0; header = noHeader }
+sentBy (Copies s) = s
+
+-- letter, mask, L, F, HC and nonce
+abbrev pub verdictValues : Verdict → List ℕ
+verdictValues v = letterOf v ∷ sentBy (sendingOf v) .mask ∷ headerValues (sentBy (sendingOf v) .header)
+
+-- those, and whether the table was full and a record was overwritten
+abbrev pub reportValues : Report → List ℕ
+reportValues r = bit (r .full) ∷ bit (r .overwrote) ∷ verdictValues (r .verdict)
+
+abbrev pub toldAnswer : Answer → Told
+toldAnswer (Refused n) = record { number = n; values = [] }
+toldAnswer (Done r) = record { number = 0; values = reportValues r }
+
+-- ---- The step
+
+-- rule 1, then the others
+abbrev pub ruled : Switch → List ℕ → ℕ → List ℕ → Ruled
+ruled s f port frame = rules (s .setup) (s .table) f (rule1 (s .setup) (s .nonce) (s .table) port frame)
+
+-- the place from which a frame stands behind its tag: a host's frame has none yet
+abbrev pub behindTag : Bool → ℕ
+behindTag host = cond host 12 18
+
+-- a frame that refusals 4 and 9 let pass
+pub record HasRoom (host : Bool) (n room : ℕ) : Type 0 where
+  pub long-enough : behindTag host ≤ n
+  pub fits : 18 + (n - behindTag host) ≤ room
+
+-- a frame with the outgoing header: on a host port it had none
+abbrev pub outgoing : Bool → List ℕ → Header → List ℕ
+outgoing host frame h = cond host (tagged frame h) (tagged (stripped frame) h)
+
+-- after a sending verdict the output holds the tagged frame at its start, the rest unchanged; after a drop it is unchanged
+abbrev pub written : Bool → List ℕ → Sending → List ℕ → List ℕ
+written host frame Nothing out = out
+written host frame (Copies s) out = atStart (outgoing host frame (s .header)) out
+
+abbrev pub switchAfter : Switch → ℕ → Ruled → Switch
+switchAfter s port r = record { setup = s .setup; nonce = nonceOn (s .setup) (s .nonce) port; table = r .table }
+
+abbrev pub switchOf : Setup → ℕ → Table → Switch
+switchOf setup nonce table = record { setup = setup; nonce = nonce; table = table }
+
+-- what a step that is refused with n, or with 0 is none, answers and leaves
+pub record Steps (n : ℕ) (s : Switch) (f : List ℕ) (port : ℕ) (frame out : List ℕ) (answer : Answer) (s′ : Switch) (f′ out′ : List ℕ) : Type 0 where
+  pub told : toldAnswer answer ≡ answered n (reportValues (ruled s f port frame .report))
+  pub switch : s′ ≡ leaves n s (switchAfter s port (ruled s f port frame))
+  pub filter : f′ ≡ leaves n f (ruled s f port frame .filter)
+  pub output : out′ ≡ leaves n out (written (onHostPort (s .setup) port) frame (sendingOf (ruled s f port frame .report .verdict)) out)
