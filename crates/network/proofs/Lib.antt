@@ -1,0 +1,9 @@
+pub mod Laws
+pub mod Trip
+mod Lists
+mod Bytes
+mod Faults
+mod Writing
+mod Reading
+mod Built
+mod Soundness

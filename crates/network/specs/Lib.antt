@@ -1,0 +1,6 @@
+pub mod Network
+pub mod Format
+pub mod Checks
+pub mod Describe
+pub mod RoundTrip
+pub mod Sound
