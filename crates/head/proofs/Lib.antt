@@ -1,3 +1,7 @@
+pub mod Laws
+mod LawsOfAnswer
+mod LawsOfOutput
+mod LawsOfSwitch
 mod Output
 pub mod Refusals
 pub mod Rows

@@ -6,7 +6,8 @@ use Rattle.refusal.specs.Refusal.{answered}
 use Rattle.refusal.proofs.Laws.{refused-answer, refused-leaves, accepted-answer, accepted-leaves}
 use Rattle.table.specs.declared.Table.{Table}
 use Rattle.rules.specs.Rules.{Ruled, onHostPort, nonceOn, ruledAs}
-use Rattle.head.specs.Step.{Steps, ruled, reportValues, sendingOf, switchAfter, switchOf, written}
+use Rattle.rules.specs.Verdict.{reportValues, sendingOf}
+use Rattle.head.specs.Step.{Steps, ruled, switchAfter, switchOf, written}
 use Rattle.head.specs.declared.Switch.{Switch}
 use Rattle.rules.specs.declared.Report.{Report}
 use Rattle.head.specs.declared.Answer.the-variants.{Refused, Done}

@@ -12,7 +12,8 @@ use Rattle.table.specs.Table.{emptyTable, put}
 use Rattle.filter.specs.Filter.{recorded}
 use Rattle.filter.specs.Triple.{triple}
 use Rattle.rules.specs.Rules.{onHostPort}
-use Rattle.head.specs.Step.{refusal, ruled, reportValues, sendingOf, switchAfter, switchOf, verdictValues, written}
+use Rattle.rules.specs.Verdict.{reportValues, sendingOf, verdictValues}
+use Rattle.head.specs.Step.{refusal, ruled, switchAfter, switchOf, written}
 use Rattle.rules.specs.declared.Send.{Send}
 use Rattle.head.specs.declared.Switch.{Switch}
 use Rattle.rules.specs.declared.Verdict.{Verdict}

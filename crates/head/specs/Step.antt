@@ -9,21 +9,18 @@ use Rattle.refusal.specs.Refusal.{Cause, when, first, outside, Told, answered, 
 use Rattle.table.specs.declared.Table.{Table}
 use Rattle.wire.specs.Address.{isSource}
 use Rattle.frame.specs.declared.Header.{Header}
-use Rattle.frame.specs.Header.{bit, headerValues}
 use Rattle.frame.specs.Frame.{ourType, typeOf, taggedTwice, headerIn, sourceOf, tagged, stripped, atStart}
 use Rattle.rules.specs.Mask.{names}
 use Rattle.head.specs.Switch.{switchCauses}
+use Rattle.rules.specs.Verdict.{reportValues, sendingOf}
 use Rattle.rules.specs.Rules.{onHostPort, rule1, nonceOn, Ruled, rules}
 use Rattle.rules.specs.declared.Setup.{Setup}
 use Rattle.head.specs.declared.Switch.{Switch}
-use Rattle.rules.specs.declared.Send.{Send}
 use Rattle.rules.specs.declared.Report.{Report}
 use Rattle.head.specs.declared.Answer.{Answer}
 use Rattle.head.specs.declared.Answer.the-variants.{Refused, Done}
-use Rattle.head.specs.declared.Sending.{Sending}
-use Rattle.head.specs.declared.Sending.the-variants.{Nothing, Copies}
-use Rattle.rules.specs.declared.Verdict.{Verdict}
-use Rattle.rules.specs.declared.Verdict.the-variants.{X, D, G, E, F, N, B, H, U}
+use Rattle.rules.specs.declared.Sending.{Sending}
+use Rattle.rules.specs.declared.Sending.the-variants.{Nothing, Copies}
 
 -- ---- Refusals
 
@@ -68,44 +65,7 @@ refusal s f port frame room = first (switchCauses s f ++ frameCauses (s .setup) 
 unfoldable pub refusalBut1 : Setup → ℕ → List ℕ → ℕ → ℕ
 refusalBut1 s port frame room = first (frameCauses s port frame room)
 
--- ---- The paper's letter and values of each verdict: mask and header are 0 after a drop
-
-abbrev pub sendingOf : Verdict → Sending
-sendingOf X = Nothing
-sendingOf D = Nothing
-sendingOf G = Nothing
-sendingOf E = Nothing
-sendingOf (F s) = Copies s
-sendingOf (N s) = Copies s
-sendingOf (B s) = Copies s
-sendingOf (H s) = Copies s
-sendingOf (U s) = Copies s
-
-abbrev pub letterOf : Verdict → ℕ
-letterOf X = 0x58
-letterOf D = 0x44
-letterOf G = 0x47
-letterOf E = 0x45
-letterOf (F s) = 0x46
-letterOf (N s) = 0x4E
-letterOf (B s) = 0x42
-letterOf (H s) = 0x48
-letterOf (U s) = 0x55
-
-abbrev pub noHeader : Header
-noHeader = record { l = false; f = false; hc = 0; nonce = 0 }
-
-abbrev pub sentBy : Sending → Send
-sentBy Nothing = record { mask = 0; header = noHeader }
-sentBy (Copies s) = s
-
--- letter, mask, L, F, HC and nonce
-abbrev pub verdictValues : Verdict → List ℕ
-verdictValues v = letterOf v ∷ sentBy (sendingOf v) .mask ∷ headerValues (sentBy (sendingOf v) .header)
-
--- those, and whether the table was full and a record was overwritten
-abbrev pub reportValues : Report → List ℕ
-reportValues r = bit (r .full) ∷ bit (r .overwrote) ∷ verdictValues (r .verdict)
+-- ---- The answer's number and values
 
 abbrev pub toldAnswer : Answer → Told
 toldAnswer (Refused n) = record { number = n; values = [] }
@@ -147,3 +107,7 @@ pub record Steps (n : ℕ) (s : Switch) (f : List ℕ) (port : ℕ) (frame out :
   pub switch : s′ ≡ leaves n s (switchAfter s port (ruled s f port frame))
   pub filter : f′ ≡ leaves n f (ruled s f port frame .filter)
   pub output : out′ ≡ leaves n out (written (onHostPort (s .setup) port) frame (sendingOf (ruled s f port frame .report .verdict)) out)
+
+-- the host frame that came in: on a switch port it has a tag
+abbrev pub hostFrame : Bool → List ℕ → List ℕ
+hostFrame host frame = cond host frame (stripped frame)

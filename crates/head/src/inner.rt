@@ -5,41 +5,26 @@ ghost use lib.ListN.{length};
 ghost use Rattle.table.specs.Table.{Sized, tableOf};
 ghost use Rattle.frame.specs.Frame.{headerIn};
 ghost use Rattle.rules.specs.Rules as spec;
-ghost use Rattle.head.specs.Step.{HasRoom, Steps, behindTag, refusal, refusalBut1, ruled, sendingOf, switchOf, written};
+ghost use Rattle.head.specs.Step.{HasRoom, Steps, behindTag, refusal, refusalBut1, ruled, switchOf, written};
+ghost use Rattle.rules.specs.Verdict.{sendingOf};
 use crate::Answer;
-use crate::Sending;
 use crate::causes::frame_refusal;
 use crate::causes::switch_refusal;
 use frame::Frame;
 use rules::Report;
+use rules::Sending;
 use rules::Setup;
 use rules::Verdict;
 use rules::masks::has_port;
 use rules::nonce_after;
 use rules::rule1;
 use rules::rules;
+use rules::sending_of;
 
 // The answer, and the next nonce.
 pub struct Turn {
     pub answer: Answer,
     pub nonce: u32,
-}
-
-// What a verdict sends.
-pub fn sending_of(v: Verdict) -> Sending
-    ensures { λ r. ⌜ r ≡ sendingOf v ⌝ }
-{
-    match v {
-        Verdict::X => Sending::Nothing,
-        Verdict::D => Sending::Nothing,
-        Verdict::G => Sending::Nothing,
-        Verdict::E => Sending::Nothing,
-        Verdict::F(s) => Sending::Copies(s),
-        Verdict::N(s) => Sending::Copies(s),
-        Verdict::B(s) => Sending::Copies(s),
-        Verdict::H(s) => Sending::Copies(s),
-        Verdict::U(s) => Sending::Copies(s),
-    }
 }
 
 // What stands behind the tag: a host's frame has none yet, and a tagged one gets another.

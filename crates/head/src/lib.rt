@@ -11,7 +11,6 @@ pub mod inner;
 ghost use lib.ListN.{length};
 ghost use Rattle.head.specs.Step.{Steps, refusal};
 use rules::Report;
-use rules::Send;
 use rules::Setup;
 use table::Table;
 
@@ -19,11 +18,6 @@ pub struct Switch {
     pub setup: Setup,
     pub nonce: u32,
     pub table: Table,
-}
-
-pub enum Sending {
-    Nothing,
-    Copies(Send),
 }
 
 pub enum Answer {

@@ -1,2 +1,6 @@
 pub mod Bits
 mod Cases
+pub mod Laws
+mod LawsOfMask
+mod LawsOfTable
+pub mod Ways

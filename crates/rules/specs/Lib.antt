@@ -1,2 +1,4 @@
 pub mod Mask
 pub mod Rules
+pub mod Verdict
+pub mod Words

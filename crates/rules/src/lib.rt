@@ -11,6 +11,7 @@ ghost use Rattle.frame.specs.Frame.{headerIn};
 ghost use Rattle.table.specs.Table.{Sized, learnedOf, tableOf};
 ghost use Rattle.table.specs.declared.Table.{Table};
 ghost use Rattle.rules.specs.Rules as spec;
+ghost use Rattle.rules.specs.Verdict.{sendingOf};
 use filter::Recorded;
 use frame::Frame;
 use frame::Header;
@@ -57,6 +58,11 @@ pub enum Verdict {
     U(Send),
 }
 
+pub enum Sending {
+    Nothing,
+    Copies(Send),
+}
+
 // A verdict, and whether the record that came with it overwrote another triple.
 pub struct Outcome {
     pub verdict: Verdict,
@@ -67,6 +73,23 @@ pub struct Report {
     pub verdict: Verdict,
     pub full: bool,
     pub overwrote: bool,
+}
+
+// What a verdict sends.
+pub fn sending_of(v: Verdict) -> Sending
+    ensures { λ r. ⌜ r ≡ sendingOf v ⌝ }
+{
+    match v {
+        Verdict::X => Sending::Nothing,
+        Verdict::D => Sending::Nothing,
+        Verdict::G => Sending::Nothing,
+        Verdict::E => Sending::Nothing,
+        Verdict::F(s) => Sending::Copies(s),
+        Verdict::N(s) => Sending::Copies(s),
+        Verdict::B(s) => Sending::Copies(s),
+        Verdict::H(s) => Sending::Copies(s),
+        Verdict::U(s) => Sending::Copies(s),
+    }
 }
 
 fn is_absent(found: Found) -> bool

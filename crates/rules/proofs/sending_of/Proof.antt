@@ -1,7 +1,7 @@
 -- Case by case.
 use borrow.Author.Needs.{needs}
-use Rattle.head.proofs.inner.sending_of.Statement.{statement}
-use Rattle.head.proofs.inner.sending_of.Tie as tie
+use Rattle.rules.proofs.sending_of.Statement.{statement}
+use Rattle.rules.proofs.sending_of.Tie as tie
 
 enum-told : tie.Need-enum-told
 enum-told c = search needs
