@@ -24,9 +24,21 @@ use Rattle.rules.specs.declared.Sending.the-variants.{Nothing, Copies}
 
 -- ---- Refusals
 
+-- 2: no such port
+abbrev pub noSuchPort : Setup → ℕ → Bool
+noSuchPort s port = leb (s .ports) port
+
+-- 3: port down
+abbrev pub portDown : Setup → ℕ → Bool
+portDown s port = not (names (s .live) port)
+
 -- 4: length not 60..1,514 (host port) or 66..1,520 (switch port)
 abbrev pub badLength : Bool → ℕ → Bool
 badLength host n = cond host (outside 60 1514 n) (outside 66 1520 n)
+
+-- 5: source zero, or its group bit set
+abbrev pub badSource : List ℕ → Bool
+badSource frame = not (isSource (sourceOf frame))
 
 -- 6: host frame of type 0x88B5, or a tagged frame whose old type is 0x88B5 too
 abbrev pub tagInside : Bool → List ℕ → Bool
@@ -47,10 +59,10 @@ tooShort host n room = cond host (ltb room (n + 6)) (ltb room n)
 -- refusals 2 to 9
 abbrev pub frameCauses : Setup → ℕ → List ℕ → ℕ → List Cause
 frameCauses s port frame room =
-    when 2 (leb (s .ports) port)
-    ∷ when 3 (not (names (s .live) port))
+    when 2 (noSuchPort s port)
+    ∷ when 3 (portDown s port)
     ∷ when 4 (badLength (onHostPort s port) (length frame))
-    ∷ when 5 (not (isSource (sourceOf frame)))
+    ∷ when 5 (badSource frame)
     ∷ when 6 (tagInside (onHostPort s port) frame)
     ∷ when 7 (lacksTag (onHostPort s port) frame)
     ∷ when 8 (noHops (onHostPort s port) frame)
@@ -67,6 +79,7 @@ refusalBut1 s port frame room = first (frameCauses s port frame room)
 
 -- ---- The answer's number and values
 
+-- a refusal has its number alone, a report its values
 abbrev pub toldAnswer : Answer → Told
 toldAnswer (Refused n) = record { number = n; values = [] }
 toldAnswer (Done r) = record { number = 0; values = reportValues r }
@@ -77,15 +90,6 @@ toldAnswer (Done r) = record { number = 0; values = reportValues r }
 abbrev pub ruled : Switch → List ℕ → ℕ → List ℕ → Ruled
 ruled s f port frame = rules (s .setup) (s .table) f (rule1 (s .setup) (s .nonce) (s .table) port frame)
 
--- the place from which a frame stands behind its tag: a host's frame has none yet
-abbrev pub behindTag : Bool → ℕ
-behindTag host = cond host 12 18
-
--- a frame that refusals 4 and 9 let pass
-pub record HasRoom (host : Bool) (n room : ℕ) : Type 0 where
-  pub long-enough : behindTag host ≤ n
-  pub fits : 18 + (n - behindTag host) ≤ room
-
 -- a frame with the outgoing header: on a host port it had none
 abbrev pub outgoing : Bool → List ℕ → Header → List ℕ
 outgoing host frame h = cond host (tagged frame h) (tagged (stripped frame) h)
@@ -95,18 +99,31 @@ abbrev pub written : Bool → List ℕ → Sending → List ℕ → List ℕ
 written host frame Nothing out = out
 written host frame (Copies s) out = atStart (outgoing host frame (s .header)) out
 
+-- the switch afterwards: its table as the rules left it, and the next nonce
 abbrev pub switchAfter : Switch → ℕ → Ruled → Switch
 switchAfter s port r = record { setup = s .setup; nonce = nonceOn (s .setup) (s .nonce) port; table = r .table }
 
+-- a switch of these parts
 abbrev pub switchOf : Setup → ℕ → Table → Switch
 switchOf setup nonce table = record { setup = setup; nonce = nonce; table = table }
 
--- what a step that is refused with n, or with 0 is none, answers and leaves
+-- what a step answers and leaves, n being its refusal number, 0 for none
 pub record Steps (n : ℕ) (s : Switch) (f : List ℕ) (port : ℕ) (frame out : List ℕ) (answer : Answer) (s′ : Switch) (f′ out′ : List ℕ) : Type 0 where
   pub told : toldAnswer answer ≡ answered n (reportValues (ruled s f port frame .report))
   pub switch : s′ ≡ leaves n s (switchAfter s port (ruled s f port frame))
   pub filter : f′ ≡ leaves n f (ruled s f port frame .filter)
   pub output : out′ ≡ leaves n out (written (onHostPort (s .setup) port) frame (sendingOf (ruled s f port frame .report .verdict)) out)
+
+-- ---- Words of the code that writes, and of the laws
+
+-- the place from which a frame stands behind its tag: a host's frame has none yet
+abbrev pub behindTag : Bool → ℕ
+behindTag host = cond host 12 18
+
+-- a frame that refusals 4 and 9 let pass
+pub record HasRoom (host : Bool) (n room : ℕ) : Type 0 where
+  pub long-enough : behindTag host ≤ n
+  pub fits : 18 + (n - behindTag host) ≤ room
 
 -- the host frame that came in: on a switch port it has a tag
 abbrev pub hostFrame : Bool → List ℕ → List ℕ

@@ -23,7 +23,7 @@ sendingOf (B s) = Copies s
 sendingOf (H s) = Copies s
 sendingOf (U s) = Copies s
 
--- its letter
+-- its letter, as the byte that is printed
 abbrev pub letterOf : Verdict → ℕ
 letterOf X = 0x58
 letterOf D = 0x44
@@ -35,10 +35,11 @@ letterOf (B s) = 0x42
 letterOf (H s) = 0x48
 letterOf (U s) = 0x55
 
+-- no header: all of it 0
 abbrev pub noHeader : Header
 noHeader = record { l = false; f = false; hc = 0; nonce = 0 }
 
--- mask and header
+-- the mask and the header of what is sent
 abbrev pub sentBy : Sending → Send
 sentBy Nothing = record { mask = 0; header = noHeader }
 sentBy (Copies s) = s

@@ -1,0 +1,21 @@
+//! The head's switch and the network bench a second time, written from the
+//! documents alone. It is run beside the proved program and both are compared.
+//!
+//! * `frame`: host frames, tagged frames, header, tagging and stripping
+//! * `table`: the learning table
+//! * `filter`: the filter of triples
+//! * `step`: one step of the switch, rules 1 to 11
+//! * `description`: the network description, reader and writer
+//! * `bench`: the network bench, events, reports and counters
+//! * `transcript`: what the bench program reads and prints
+//! * `vectors`: single calls as lines of text (FORMAT.md)
+
+pub mod bench;
+pub mod description;
+pub mod filter;
+pub mod frame;
+pub mod refusal;
+pub mod step;
+pub mod table;
+pub mod transcript;
+pub mod vectors;
