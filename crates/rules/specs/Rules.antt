@@ -24,6 +24,7 @@ use Rattle.rules.specs.declared.Verdict.the-variants.{X, D, G, E, F, N, 
 
 -- ---- what the rules speak of
 
+-- no entry was found
 abbrev pub isAbsent : Found → Bool
 isAbsent (Here e) = false
 isAbsent Absent = true
@@ -40,6 +41,7 @@ tripleOf a h = triple (a .source) (h .nonce) (bit (h .l))
 abbrev pub flagged : Bool → Bool → Header → Header
 flagged l f h = record { l = l; f = f; hc = h .hc; nonce = h .nonce }
 
+-- copies of one header on a mask's ports
 abbrev pub sends : ℕ → Header → Send
 sends mask header = record { mask = mask; header = header }
 
@@ -49,12 +51,15 @@ pub record After : Type 0 where
   pub filter : List ℕ
   pub outcome : Outcome
 
+-- a verdict, and whether its record overwrote
 abbrev pub outcome : Verdict → Bool → Outcome
 outcome v overwrote = record { verdict = v; overwrote = overwrote }
 
+-- table and filter as they are left, with an outcome
 abbrev pub left : Table → List ℕ → Outcome → After
 left t f o = record { table = t; filter = f; outcome = o }
 
+-- the same, from the outcome's parts
 abbrev pub after : Table → List ℕ → Verdict → Bool → After
 after t f v overwrote = left t f (outcome v overwrote)
 
@@ -64,18 +69,23 @@ plainly t f v = after t f v false
 
 -- ---- 1. Host port: HC 1, L set, the next nonce, F set exactly if the source has no entry. Switch port: HC is the received one plus 1.
 
+-- the port's role decides
 abbrev pub onHostPort : Setup → ℕ → Bool
 onHostPort s port = names (s .host) port
 
+-- a frame as it arrives, with the header that it has from now on
 abbrev pub arrival : ℕ → List ℕ → Header → Arrival
 arrival port frame h = record { port = port; source = sourceOf frame; destination = destinationOf frame; header = h }
 
+-- on a host port
 abbrev pub hostHeader : ℕ → Table → List ℕ → Header
 hostHeader nonce t frame = record { l = true; f = isAbsent (lookupOf t (sourceOf frame)); hc = 1; nonce = nonce }
 
+-- on a switch port
 abbrev pub hopHeader : Header → Header
 hopHeader h = record { l = h .l; f = h .f; hc = h .hc + 1; nonce = h .nonce }
 
+-- the arrival that the other rules see
 unfoldable pub rule1 : Setup → ℕ → Table → ℕ → List ℕ → Arrival
 rule1 s nonce t port frame = arrival port frame (cond (onHostPort s port) (hostHeader nonce t frame) (hopHeader (headerIn frame)))
 
@@ -85,6 +95,7 @@ nonceOn s nonce port = cond (onHostPort s port) ((nonce + 1) % 2 ^ 24) nonce
 
 -- ---- 2. HC above the limit: if F is clear, erase the destination. X.
 
+-- the hop count is above the limit
 abbrev pub tooOld : Setup → Arrival → Bool
 tooOld s a = ltb (s .limit) (a .header .hc)
 
@@ -93,12 +104,15 @@ rule2 t f a = plainly (cond (a .header .f) t (eraseOf t (a .destination))) f X
 
 -- ---- 3. F set: ask the filter if it is a duplicate, then record the triple. F clear: not a duplicate, nothing recorded.
 
+-- what the filter answers
 unfoldable pub isDuplicate : Setup → List ℕ → Arrival → Bool
 isDuplicate s f a = a .header .f && holds f (s .salt) (tripleOf a (a .header))
 
+-- the filter afterwards
 unfoldable pub rule3 : Setup → List ℕ → Arrival → List ℕ
 rule3 s f a = cond (a .header .f) (recorded f (s .salt) (tripleOf a (a .header))) f
 
+-- whether a different triple was replaced
 unfoldable pub overwrote3 : Setup → List ℕ → Arrival → Bool
 overwrote3 s f a = a .header .f && overwrites f (s .salt) (tripleOf a (a .header))
 
@@ -109,10 +123,12 @@ reading t a = lookupOf t (a .source)
 
 -- ---- 5. Not a duplicate, L clear, entry present with HC 1: erase the destination.
 
+-- an entry with HC 1
 abbrev pub atOne : Found → Bool
 atOne (Here e) = eqb (e .hops) 1
 atOne Absent = false
 
+-- whether rule 5 erases
 unfoldable pub erases : Arrival → Bool → Found → Bool
 erases a dup found = not dup && not (a .header .l) && atOne found
 
@@ -121,10 +137,12 @@ rule5 t a dup found = cond (erases a dup found) (eraseOf t (a .destination)) t
 
 -- ---- 6. No entry, or HC less than the entry's, or L set and not a duplicate: learn source, arrival port, HC.
 
+-- no entry, or HC less than the entry's
 abbrev pub isNearer : ℕ → Found → Bool
 isNearer hc (Here e) = ltb hc (e .hops)
 isNearer hc Absent = true
 
+-- whether rule 6 learns
 unfoldable pub learns : Arrival → Bool → Found → Bool
 learns a dup found = isNearer (a .header .hc) found || (a .header .l && not dup)
 
@@ -135,8 +153,19 @@ rule6 t a dup found = cond (learns a dup found) (learnOf t (a .source) (a .port)
 unfoldable pub learning : Table → Arrival → Bool → Learned
 learning t a dup = rule6 (rule5 t a dup (reading t a)) a dup (reading t a)
 
+-- ---- 7. Duplicate: D.
+
+abbrev pub rule7 : Table → List ℕ → After
+rule7 t f = plainly t f D
+
+-- ---- 8. F set: flood. F.
+
+abbrev pub rule8 : Setup → Table → List ℕ → Arrival → After
+rule8 s t f a = plainly t f (F (sends (flood s a) (a .header)))
+
 -- ---- 9. If no entry for the destination stands, or its port is down ..
 
+-- an entry counts where its port is up
 abbrev pub ifUp : ℕ → Found → Found
 ifUp live (Here e) = cond (names live (e .port)) (Here e) Absent
 ifUp live Absent = Absent
@@ -146,6 +175,7 @@ abbrev pub PortWithin : Found → Type 0
 PortWithin (Here e) = e .port < 16
 PortWithin Absent = Unit {0}
 
+-- the entry that stands for an address
 unfoldable pub standing : Setup → Table → ℕ → Found
 standing s t x = ifUp (s .live) (lookupOf t x)
 
@@ -181,13 +211,9 @@ onwardBy s t f a (Here e) = cond (eqb (e .port) (a .port)) (rule10 t f a) (rule1
 unfoldable pub onward : Setup → Table → List ℕ → Arrival → After
 onward s t f a = onwardBy s t f a (standing s t (a .destination))
 
--- ---- 7. Duplicate: D.  8. F set: flood. F.
-
+-- rules 7 to 11
 unfoldable pub forwarding : Setup → Table → List ℕ → Arrival → Bool → After
-forwarding s t f a dup =
-    cond dup (plainly t f D)
-    (cond (a .header .f) (plainly t f (F (sends (flood s a) (a .header))))
-    (onward s t f a))
+forwarding s t f a dup = cond dup (rule7 t f) (cond (a .header .f) (rule8 s t f a) (onward s t f a))
 
 -- ---- Rules 2 to 11 one behind the other: table, filter and report
 
@@ -206,6 +232,7 @@ ruledAs t f r = record { table = t; filter = f; report = r }
 abbrev pub reported : Bool → Bool → After → Ruled
 reported full overwrote w = ruledAs (w .table) (w .filter) (reportOf full overwrote (w .outcome))
 
+-- rules 7 to 11, behind what was learned
 abbrev pub fromLearning : Setup → List ℕ → Arrival → Bool → Bool → Learned → Ruled
 fromLearning s f a dup overwrote k = reported (k .full) overwrote (forwarding s (k .table) f a dup)
 
