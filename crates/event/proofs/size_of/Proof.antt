@@ -1,0 +1,29 @@
+-- Each size is what the length counts and its own two bytes.
+use Rattle.event.specs.Event.{kindOf, eventLength, sizeOf}
+use borrow.Author.Needs.{needs}
+use Rattle.event.proofs.size_of.Statement.{statement}
+use Rattle.event.proofs.size_of.Tie as tie
+
+enum-told : tie.Need-enum-told
+enum-told c = search needs
+
+enum-told-2 : tie.Need-enum-told-2
+enum-told-2 c = search needs
+
+enum-told-3 : tie.Need-enum-told-3
+enum-told-3 c = search needs
+
+returns : tie.Need-returns
+unfolding sizeOf eventLength kindOf
+returns c = rw (c .enum-told .given .1)
+
+returns-2 : tie.Need-returns-2
+unfolding sizeOf eventLength kindOf
+returns-2 c = rw (c .enum-told2 .given .1)
+
+returns-3 : tie.Need-returns-3
+unfolding sizeOf eventLength kindOf
+returns-3 c = rw (c .enum-told3 .given .1)
+
+pub size-of-spec : {M : Type 1} → statement M
+size-of-spec = tie.close (tie.spec enum-told enum-told-2 enum-told-3 returns returns-2 returns-3)

@@ -1,0 +1,5 @@
+pub mod Laws
+mod Digits
+mod Parts
+mod ReadBack
+pub mod Rows

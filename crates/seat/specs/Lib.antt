@@ -1,0 +1,3 @@
+pub mod Seat
+pub mod Words
+pub mod Frames
