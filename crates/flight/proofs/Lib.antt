@@ -1,0 +1,4 @@
+pub mod Laws
+mod Laid
+mod Packing
+mod Sweep
