@@ -1,0 +1,6 @@
+pub mod Laws
+mod Count
+mod Delivery
+mod Records
+mod Following
+mod Example

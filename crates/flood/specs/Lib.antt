@@ -1,0 +1,3 @@
+pub mod Mesh
+pub mod Delivery
+pub mod Records
