@@ -3,7 +3,7 @@ use Prim.Native.Nat.{ℕ, zero, suc, _+_, _<_, _≤_}
 use mathlib.Core.Path.{_≡_, refl, sym, ap, _∙_}
 use mathlib.Core.Logic.{_⊎_, _≢_, inl, inr, ⊎-elim}
 use mathlib.Core.Bool.{Bool, true, false, cond}
-use mathlib.Core.List.{List, [], _∷_, _++_, append-assoc, map-append, List·Memᴰ, List·Memᴰ·head, List·Memᴰ·tail, List·Memᴰ·cases-cons, List·Memᴰ·append-cases, List·Memᴰ·eq-of-singleton, List·Memᴰ·not-nil}
+use mathlib.Core.List.{List, [], _∷_, _++_, append-assoc, map, map-append, List·Memᴰ, List·Memᴰ·head, List·Memᴰ·tail, List·Memᴰ·cases-cons, List·Memᴰ·append-cases, List·Memᴰ·eq-of-singleton, List·Memᴰ·not-nil}
 use native.Mathlib.Nat.{le-of-suc-le-suc, not-suc-le-zero}
 use native.Mathlib.Numerals.{add-one}
 use native.Mathlib.Omega.{arith}
@@ -12,7 +12,7 @@ use lib.ListN.{length, getD, take, drop, set, length-append, length-drop, length
 use lib.Seq.{drop-append-le, getD-take, length-take-le, take-append-le, take-suc-set}
 use borrow.Author.Tests.{ne-eqb, eqb-true, eqb-false}
 use Rattle.flight.specs.declared.Copy.{Copy}
-use Rattle.flight.specs.Flight.{All, Cut, Ranged, copiesIn, copyAt, noCopy, pack, spared, unpack, without}
+use Rattle.flight.specs.Flight.{All, Cut, Ranged, copiesIn, copyAt, noCopy, pack, spared, sparedWords, unpack, without}
 use Rattle.flight.proofs.Laid.{one-more}
 use Rattle.flight.proofs.Packing.{read-back}
 
@@ -185,3 +185,13 @@ spared-all link {xs} h = go xs (h .each)
     go : (xs : List Copy) → ((c : Copy) → List·Memᴰ c xs → c .link ≢ link) → spared link xs ≡ xs
     go [] h = refl
     go (x ∷ xs) h = rw (ne-eqb (x .link) link (h x (List·Memᴰ·head refl))) (ap (λ (l : List Copy). x ∷ l) (go xs (λ c m. h c (List·Memᴰ·tail m))))
+
+-- the copies that are left are those that the words left carry
+pub spared-words : (link : ℕ) (ws : List (List ℕ)) → map unpack (sparedWords link ws) ≡ spared link (map unpack ws)
+unfolding spared sparedWords
+spared-words link [] = refl
+spared-words link (w ∷ ws) = go (eqb (unpack w .link) link) (spared-words link ws)
+  where
+    go : (b : Bool) → map unpack (sparedWords link ws) ≡ spared link (map unpack ws) → map unpack (cond b (sparedWords link ws) (w ∷ sparedWords link ws)) ≡ cond b (spared link (map unpack ws)) (unpack w ∷ spared link (map unpack ws))
+    go true e = e
+    go false e = ap (λ (l : List Copy). unpack w ∷ l) e

@@ -12,7 +12,7 @@ use borrow.Author.Tests.{eq-eqb, ne-eqb}
 use Rattle.flight.specs.declared.Copy.{Copy}
 use Rattle.flight.specs.Flight.{Cut, Ranged, TakenOut, Worded, copiesIn, laid, most, noCopy, noWords, pack, spared, sparedWords, unpack, without}
 use Rattle.flight.proofs.Laid.{laid-behind, laid-front, laid-joins, laid-padded, laid-same, one-more}
-use Rattle.flight.proofs.Laws.{copies-length, copies-next, unpack-pack, without-append, without-length}
+use Rattle.flight.proofs.Laws.{copies-length, copies-next, spared-words, unpack-pack, without-append, without-length}
 
 -- ---- Taking out
 
@@ -67,16 +67,6 @@ module _ {place : ℕ} {a : List (List ℕ)} {i : ℕ} {words : List (List ℕ)}
   moved-ends = record { copies = rw (v .places, laid-front (without place (take i a)) a (i - 1) one-fewer) (map-without unpack place (take i a)); words = v .places }
 
 -- ---- Cutting
-
--- of the copies as of their words
-spared-words : (link : ℕ) (ws : List (List ℕ)) → map unpack (sparedWords link ws) ≡ spared link (map unpack ws)
-unfolding spared sparedWords
-spared-words link [] = refl
-spared-words link (w ∷ ws) = go (eqb (unpack w .link) link) (spared-words link ws)
-  where
-    go : (b : Bool) → map unpack (sparedWords link ws) ≡ spared link (map unpack ws) → map unpack (cond b (sparedWords link ws) (w ∷ sparedWords link ws)) ≡ cond b (spared link (map unpack ws)) (unpack w ∷ spared link (map unpack ws))
-    go true e = e
-    go false e = ap (λ (l : List Copy). unpack w ∷ l) e
 
 -- from the two parts of a list
 spared-words-append : (link : ℕ) (xs ys : List (List ℕ)) → sparedWords link (xs ++ ys) ≡ sparedWords link xs ++ sparedWords link ys

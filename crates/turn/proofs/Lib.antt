@@ -1,0 +1,8 @@
+pub mod Laws
+mod LawsOfAnswer
+mod LawsOfMasks
+mod LawsOfSending
+mod LawsOfStep
+mod Outboxes
+mod Turning
+mod Writing

@@ -1,0 +1,45 @@
+-- The state is written, and what was in flight and is not any more was cut.
+use Rattle.turn.proofs.Writing.{laid-spared}
+use Rattle.turn.proofs.Turning.{set-is}
+use borrow.Author.Needs.{needs}
+use Rattle.turn.proofs.set_link.Statement.{statement}
+use Rattle.turn.proofs.set_link.Tie as tie
+
+cast-link : tie.Need-cast-link
+cast-link c = search needs
+
+slice-write-up : tie.Need-slice-write-up
+slice-write-up c = search needs
+
+spare-requires : tie.Need-spare-requires
+spare-requires c κs = search needs
+
+sub-t12 : tie.Need-sub-t12
+sub-t12 c = search needs
+
+cast-t13 : tie.Need-cast-t13
+cast-t13 c = search needs
+
+same-length : tie.Need-same-length
+same-length c = search needs
+
+same-length-2 : tie.Need-same-length-2
+same-length-2 c = search needs
+
+returns : tie.Need-returns
+returns c =
+    let spares = c .before .spare .ensures in
+    (set-is _ _ (c .before .before .before .before .before .before .pre .0) spares, laid-spared spares)
+
+pub set-link-spec : {M : Type 1} → statement M
+set-link-spec =
+    tie.close
+    (tie.spec
+    cast-link
+    slice-write-up
+    spare-requires
+    sub-t12
+    cast-t13
+    same-length
+    same-length-2
+    returns)

@@ -1,0 +1,3 @@
+pub mod Send
+pub mod Turn
+pub mod Fits
