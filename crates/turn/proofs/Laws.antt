@@ -1,4 +1,5 @@
--- What callers cite of a turn. An accepted event is one that its own refusals let pass, on an accepted network, with copies in flight that fit.
+-- What callers cite of a turn. An accepted event is one that its own refusals let pass, on an accepted network, with copies in flight that fit;
+-- that its host, copy or link is there, and its destination not zero, is passed on from proofs/Turning.
 use Prim.Native.Nat.{ℕ, _+_, _-_, _≤_, _<_}
 use mathlib.Core.Path.{_≡_, refl, sym, ap, subst, _∙_}
 use mathlib.Core.Logic.{_↔_, by-cases, inl, inr}
@@ -44,7 +45,8 @@ use Rattle.turn.specs.Fits.{CopyFits, SeatFits}
 use Rattle.turn.proofs.LawsOfAnswer.{answer-apart}
 use Rattle.turn.proofs.LawsOfSending as sending
 use Rattle.turn.proofs.LawsOfStep.{Comes, all-at, all-without, copies-stay, count-outbox, few-outbox, small-report, spared-all, spared-stay, step-stays, without-few}
-use Rattle.turn.proofs.Turning.{fewer, host-accepted, link-accepted, place-accepted, to-accepted}
+use Rattle.turn.proofs.Turning.{fewer}
+pub use Rattle.turn.proofs.Turning.{host-accepted, to-accepted, place-accepted, link-accepted}
 
 -- ---- Whose turn it is
 
@@ -52,16 +54,25 @@ module _ (n : Network) (fine : networkFault n ≡ 0) where
   sound : Sound n
   sound = accepted-is-sound n fine
 
+  -- a host's address can be a source
+  pub host-source : (i : ℕ) → i < n .nhosts → Source (hostOf n i .address)
+  unfolding hostOf
+  host-source i h =
+      let host : FineHost (switchesOf n) (hostAt n i) = rw (host-is n i h) at (sound .host i (rw (hosts-long n) h)) in
+      let single = host .address .single in
+      record { nonzero = host .address .nonzero; below = host .address .below; single = omega arith }
+
   module _ (up : List Bool) (flying : List Copy) (fit : All (CopyFits n up) flying) where
-    -- an accepted event's copy is there, and fits
-    copy-fits : (place : ℕ) → ownRefusal n (length flying) (Take place) ≡ 0 → CopyFits n up (copyAt flying place)
+    -- the copy that an accepted event takes fits
+    pub copy-fits : (place : ℕ) → ownRefusal n (length flying) (Take place) ≡ 0 → CopyFits n up (copyAt flying place)
     copy-fits place free = all-at fit place (place-accepted n (length flying) place free)
 
-    host-port : (p : Presented) → ownRefusal n (length flying) (Present p) ≡ 0 → Stands n (hostOf n (p .host) .port)
+    -- the port that an accepted event's frame arrives on is there: its host's, or that of the end which receives its copy
+    pub host-port : (p : Presented) → ownRefusal n (length flying) (Present p) ≡ 0 → Stands n (hostOf n (p .host) .port)
     unfolding hostOf
     host-port p free = host-stands n fine (p .host) (host-accepted n (length flying) p free)
 
-    copy-port : (place : ℕ) → ownRefusal n (length flying) (Take place) ≡ 0 → Stands n (portTo n (copyAt flying place))
+    pub copy-port : (place : ℕ) → ownRefusal n (length flying) (Take place) ≡ 0 → Stands n (portTo n (copyAt flying place))
     unfolding portTo
     copy-port place free = port-stands n fine (endOf (copyAt flying place)) (copy-fits place free .link)
 
@@ -86,20 +97,13 @@ module _ (n : Network) (fine : networkFault n ≡ 0) where
       unfolding setupOf
       ports-of fits = ap (λ (x : Setup). x .ports) (fits .setup)
 
-      source-of : (i : ℕ) → i < n .nhosts → Source (hostOf n i .address)
-      unfolding hostOf
-      source-of i h =
-          let host : FineHost (switchesOf n) (hostAt n i) = rw (host-is n i h) at (sound .host i (rw (hosts-long n) h)) in
-          let single = host .address .single in
-          record { nonzero = host .address .nonzero; below = host .address .below; single = omega arith }
-
       host-comes : (p : Presented) → ownRefusal n (length flying) (Present p) ≡ 0 → SeatFits n up (hostOf n (p .host) .port .switch) s → Comes s (hostArrival s (hostOf n (p .host)) (addressOf (p .to)))
       unfolding hostArrival fromHost
       host-comes p free fits =
           let h = hostOf n (p .host) in
           let to = to-accepted n (length flying) p free in
           record {
-            arrives = host-arrives s (h .port .number) (h .address) (addressOf (p .to)) (source-of (p .host) (host-accepted n (length flying) p free))
+            arrives = host-arrives s (h .port .number) (h .address) (addressOf (p .to)) (host-source (p .host) (host-accepted n (length flying) p free))
                 (rw (ports-of fits) (host-port p free .number));
             nonce = host-nonce s (h .port .number) (h .address) (addressOf (p .to)) (fits .formed);
             some = to .0;

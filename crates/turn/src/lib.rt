@@ -200,9 +200,10 @@ fn set_link(
     let link = s.link as usize;
     up[link] = state;
     let left = spare(words, flying, s.link, state);
+    let gone = (flying - left) as u16;
     Turned {
         seat,
-        answer: Answer::Linked((flying - left) as u16),
+        answer: Answer::Linked(gone),
         flying: left,
     }
 }

@@ -14,11 +14,11 @@ slice-write-up c = search needs
 spare-requires : tie.Need-spare-requires
 spare-requires c κs = search needs
 
-sub-t12 : tie.Need-sub-t12
-sub-t12 c = search needs
+sub-gone : tie.Need-sub-gone
+sub-gone c = search needs
 
-cast-t13 : tie.Need-cast-t13
-cast-t13 c = search needs
+cast-gone : tie.Need-cast-gone
+cast-gone c = search needs
 
 same-length : tie.Need-same-length
 same-length c = search needs
@@ -38,8 +38,8 @@ set-link-spec =
     cast-link
     slice-write-up
     spare-requires
-    sub-t12
-    cast-t13
+    sub-gone
+    cast-gone
     same-length
     same-length-2
     returns)
