@@ -1,0 +1,4 @@
+pub mod Bench
+pub mod Events
+pub mod Shape
+pub mod Kept
