@@ -81,7 +81,7 @@ fn fresh_heads(n: Network, plugs: &[u8], up: &[bool]) -> [Seat; Network::SWITCHE
     seats
 }
 
-// Head k.
+// Head k; a function of its own, since an array's length is known of a parameter.
 fn head_at(seats: [Seat; Network::SWITCHES], k: usize) -> Seat
     requires { ⌜ k < mostSwitches ⌝ }
     ensures { λ r. ⌜ r ≡ getD seats k noSeat ⌝ }

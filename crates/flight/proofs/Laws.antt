@@ -94,6 +94,16 @@ without-or-at {c} k xs m = rw add-one (go k xs m)
 
 -- ---- Copies cut
 
+-- of the copies as of their words
+pub spared-words : (link : ℕ) (ws : List (List ℕ)) → map unpack (sparedWords link ws) ≡ spared link (map unpack ws)
+unfolding spared sparedWords
+spared-words link [] = refl
+spared-words link (w ∷ ws) = go (eqb (unpack w .link) link) (spared-words link ws)
+  where
+    go : (b : Bool) → map unpack (sparedWords link ws) ≡ spared link (map unpack ws) → map unpack (cond b (sparedWords link ws) (w ∷ sparedWords link ws)) ≡ cond b (spared link (map unpack ws)) (unpack w ∷ spared link (map unpack ws))
+    go true e = e
+    go false e = ap (λ (l : List Copy). unpack w ∷ l) e
+
 -- from the two parts of a list
 pub spared-append : (link : ℕ) (xs ys : List Copy) → spared link (xs ++ ys) ≡ spared link xs ++ spared link ys
 unfolding spared
@@ -185,13 +195,3 @@ spared-all link {xs} h = go xs (h .each)
     go : (xs : List Copy) → ((c : Copy) → List·Memᴰ c xs → c .link ≢ link) → spared link xs ≡ xs
     go [] h = refl
     go (x ∷ xs) h = rw (ne-eqb (x .link) link (h x (List·Memᴰ·head refl))) (ap (λ (l : List Copy). x ∷ l) (go xs (λ c m. h c (List·Memᴰ·tail m))))
-
--- the copies that are left are those that the words left carry
-pub spared-words : (link : ℕ) (ws : List (List ℕ)) → map unpack (sparedWords link ws) ≡ spared link (map unpack ws)
-unfolding spared sparedWords
-spared-words link [] = refl
-spared-words link (w ∷ ws) = go (eqb (unpack w .link) link) (spared-words link ws)
-  where
-    go : (b : Bool) → map unpack (sparedWords link ws) ≡ spared link (map unpack ws) → map unpack (cond b (sparedWords link ws) (w ∷ sparedWords link ws)) ≡ cond b (spared link (map unpack ws)) (unpack w ∷ spared link (map unpack ws))
-    go true e = e
-    go false e = ap (λ (l : List Copy). unpack w ∷ l) e

@@ -10,7 +10,7 @@ use lib.ListN.{length, getD, take, drop, set, replicate, length-append, length-m
 use lib.Seq.{length-take-le, take-take}
 use borrow.Author.Tests.{eq-eqb, ne-eqb}
 use Rattle.flight.specs.declared.Copy.{Copy}
-use Rattle.flight.specs.Flight.{Cut, Ranged, TakenOut, Worded, copiesIn, laid, most, noCopy, noWords, pack, spared, sparedWords, unpack, without}
+use Rattle.flight.specs.Flight.{Cut, Ranged, TakenOut, Worded, copiesIn, laid, most, noCopy, noWords, pack, sparedWords, unpack, without}
 use Rattle.flight.proofs.Laid.{laid-behind, laid-front, laid-joins, laid-padded, laid-same, one-more}
 use Rattle.flight.proofs.Laws.{copies-length, copies-next, spared-words, unpack-pack, without-append, without-length}
 

@@ -1,0 +1,9 @@
+mod Adding
+mod Answering
+mod Fit
+mod Histories
+mod Keeping
+pub mod Laws
+mod Plain
+mod Refusing
+mod Telling
