@@ -1,0 +1,9 @@
+pub mod Laws
+mod Acting
+mod Following
+mod Standing
+mod Small
+mod Printing
+mod Loop
+mod Whole
+mod WholeRun
