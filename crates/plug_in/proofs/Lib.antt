@@ -1,0 +1,21 @@
+pub mod Laws
+mod Mesh
+mod Stand
+mod Sent
+mod Happening
+mod Reached
+mod View
+mod Stepping
+mod Passing
+mod Flooding
+mod Ours
+mod Taken
+mod Dropping
+mod Taking
+mod Begin
+mod Carrying
+mod Run
+mod Following
+mod Claims
+mod Trying
+mod Example
