@@ -1,19 +1,27 @@
 -- The theorem isn't empty: on a ring of three switches, each with a host, a run that meets every premise, to the last copy. The prover computes it.
-use Prim.Native.Nat.{ℕ, zero, suc, _≤_, _<_}
-use mathlib.Core.Path.{_≡_, refl, sym, ap, subst, _∙_}
+use Prim.Native.Nat.{ℕ, zero, suc, _<_}
+use mathlib.Core.Path.{_≡_, refl, sym, subst}
 use mathlib.Core.Logic.{_≢_}
-use mathlib.Core.Bool.{Bool, true, false}
+use mathlib.Core.Bool.{true, false}
 use mathlib.Core.List.{List, [], _∷_, List·Memᴰ, List·Memᴰ·not-nil}
 use native.Mathlib.Omega.{arith}
 use lib.ListN.{take}
-use borrow.Author.Tests.{eqb-false, ltb-true}
+use Rattle.wire.specs.Address.{Source}
+use Rattle.wire.specs.Wire.{bytesOf}
 use Rattle.network.specs.declared.Network.{Network}
-use Rattle.network.specs.declared.Record.{Record}
 use Rattle.network.specs.declared.Record.the-variants.{Switch as OfSwitch, Host as OfHost, Link as OfLink}
 use Rattle.network.specs.Checks.{networkFault}
+use Rattle.network.specs.Network.{limitOf}
+use Rattle.table.specs.Table.{Holds}
+use Rattle.table.proofs.Laws.{absent-iff, empty-absent, empty-well-formed}
+use Rattle.filter.specs.Filter.{Names}
+use Rattle.filter.specs.Triple.{width}
+use Rattle.filter.proofs.Laws.{source-some, zeros-name-none}
+use Rattle.cabling.specs.Cabling.{switchAt}
+use Rattle.seat.specs.declared.Seat.{Seat}
 use Rattle.event.specs.declared.Event.{Event}
 use Rattle.event.specs.declared.Event.the-variants.{Take}
-use Rattle.event.specs.declared.Address.{Address}
+use Rattle.bench.proofs.Laws.{fresh-seat}
 use Rattle.counters.specs.History.{InRun, State, after, freshState, happensAt, historyOf, runOf}
 use Rattle.counters.proofs.Laws.{event-in-run, fresh-in-run}
 use Rattle.table.specs.Table as table
@@ -35,31 +43,22 @@ use Rattle.bench.specs.Events as events
 use Rattle.counters.specs.Counters as counters
 use Rattle.plug_in.specs.Words as words
 use Rattle.plug_in.specs.Demand as demand
-use Rattle.wire.specs.Address.{Source}
-use Rattle.wire.specs.Wire.{bytesOf}
-use Rattle.table.specs.Table.{Holds}
-use Rattle.table.proofs.Laws.{absent-iff, empty-absent, empty-well-formed}
-use Rattle.filter.specs.Filter.{Names}
-use Rattle.filter.specs.Triple.{width}
-use Rattle.filter.proofs.Laws.{source-some, zeros-name-none}
-use Rattle.seat.specs.declared.Seat.{Seat}
-use Rattle.bench.specs.declared.Bench.{Bench}
-use Rattle.bench.proofs.Laws.{fresh-seat}
-use Rattle.counters.specs.Event.{mostEvents}
-use Rattle.plug_in.specs.Demand.{AllProvided, NoneFlies, PluggedIn, Starts, sends}
-use Rattle.plug_in.specs.Words.{HasRecord, JoinedTo, LimitsReach, LosesNone, NamesNowhere, receivesBy, times}
+use Rattle.plug_in.specs.Demand.{AllProvided, NoneFlies, PluggedIn, Starts, frameOf, sends}
+use Rattle.plug_in.specs.Words.{Cabled, HasRecord, JoinedTo, LimitsReach, LosesNone, NamesNowhere, addressOfHost, homeOf, receivesBy, times}
 use Rattle.plug_in.proofs.Happening.{accepted-answer}
 use Rattle.plug_in.proofs.Laws.{first-plug-in}
 use Rattle.plug_in.proofs.Stand.{host-source}
-use Rattle.plug_in.proofs.Trying.{allFree, allKeep, allProvided, both, ends, free, free-goes, isFree, leaves, loses, lostNone, provided, run-ends}
+use Rattle.plug_in.proofs.Trying.{allFree, allKeep, allProvided, ends, free, free-goes, isFree, leaves, loses, lostNone, provided, run-ends}
 
--- ---- The ring
+-- ---- The ring and its run
 
 -- three switches of three ports, with limit 3; host i on port 0 of switch i, and a link between any two switches
 unfoldable pub ring : Network
 ring =
     network.built network.emptyNetwork
-    (OfSwitch (record { ports = 3; limit = 3; salt = 1 }) ∷ OfSwitch (record { ports = 3; limit = 3; salt = 2 }) ∷ OfSwitch (record { ports = 3; limit = 3; salt = 3 })
+    (OfSwitch (record { ports = 3; limit = 3; salt = 1 })
+    ∷ OfSwitch (record { ports = 3; limit = 3; salt = 2 })
+    ∷ OfSwitch (record { ports = 3; limit = 3; salt = 3 })
     ∷ OfHost (record { port = record { switch = 0; number = 0 }; address = 2 })
     ∷ OfHost (record { port = record { switch = 1; number = 0 }; address = 4 })
     ∷ OfHost (record { port = record { switch = 2; number = 0 }; address = 6 })
@@ -68,130 +67,151 @@ ring =
     ∷ OfLink (record { first = record { switch = 1; number = 2 }; second = record { switch = 2; number = 2 } })
     ∷ [])
 
+abbrev pub fresh : State
+fresh = freshState ring
+
+-- host 0 sends to an address that is no host's
+abbrev pub first : Event
+first = sends 0 (record { b0 = 0; b1 = 0; b2 = 0; b3 = 0; b4 = 0; b5 = 9 })
+
+-- and its four copies are taken, always the first of those in flight
+abbrev pub takings : List Event
+takings = Take 0 ∷ Take 0 ∷ Take 0 ∷ Take 0 ∷ []
+
+-- the address and the switch of host 0, and the bench in the end
+abbrev pub sender : ℕ
+sender = addressOfHost fresh 0
+
+abbrev pub home : ℕ
+home = homeOf fresh 0 .switch
+
+abbrev end : State
+end = ends fresh (first ∷ takings)
+
+-- ---- What is computed
+
 fine : networkFault ring ≡ 0
 unfolding ring addresses.isSource network.limitOf network.emptyNetwork network.upTo network.switchesOf network.hostsOf network.linksOf network.records network.add network.built network.cleared check.any check.taken check.stands check.notAbove check.tooMany check.outOfOrder check.switchOut check.outOfRange check.portTaken check.addressOut check.badAddress check.recordFault check.recordsFault check.networkFault
 fine = refl
 
--- host 0 sends to an address that is no host's, and its four copies are taken, always the first of those in flight
-abbrev pub away : Address
-away = record { b0 = 0; b1 = 0; b2 = 0; b3 = 0; b4 = 0; b5 = 9 }
+record Computed : Type 0 where
+  pub hosts : fresh .bench .network .nhosts ≡ 3
+  pub switches : fresh .bench .network .nswitches ≡ 3
+  pub limit-0 : limitOf (switchAt (fresh .bench .network) 0) ≡ 3
+  pub limit-1 : limitOf (switchAt (fresh .bench .network) 1) ≡ 3
+  pub limit-2 : limitOf (switchAt (fresh .bench .network) 2) ≡ 3
+  pub is : sender ≡ 2
+  -- each event takes effect, none of the frame's copies is lost, no record of it overwritten
+  pub starts : isFree fresh first ≡ true
+  pub placed : lostNone sender (events.eventOf (fresh .bench) first .answer) ≡ true
+  pub provided : allProvided sender (frameOf fresh 0) (leaves fresh first) takings ≡ true
+  pub goes : allFree fresh (first ∷ takings) ≡ true
+  -- in the end no copy is in flight, and from the first switch a live cable leads to each other, where host i is
+  pub quiet : end .bench .flying ≡ 0
+  pub at-1 : Cabled (end .bench) home 1
+  pub at-2 : Cabled (end .bench) home 2
+  pub all : end .bench .network .nhosts ≡ 3
+  pub first-home : home ≡ 0
+  pub home-1 : homeOf end 1 .switch ≡ 1
+  pub home-2 : homeOf end 2 .switch ≡ 2
 
-abbrev pub takings : List Event
-takings = Take 0 ∷ Take 0 ∷ Take 0 ∷ Take 0 ∷ []
-
-all-free : allFree (freshState ring) (sends 0 away ∷ takings) ≡ true
-unfolding ring allFree leaves table.emptyTable table.slotOf table.foundAt table.lookupOf table.put table.slotFor table.learnAt table.learnOf table.eraseAt table.eraseOf filter.hash filter.cellOf filter.same filter.empty filter.standing filter.hasCell filter.holds filter.overwrites filter.recorded wire.numberAfter wire.number masks.names masks.allBut rule.rule2 rule.isDuplicate rule.rule3 rule.overwrote3 rule.erases rule.rule5 rule.learns rule.rule6 rule.learning rule.standing rule.rule9 rule.rule10 rule.rule11 rule.onward rule.forwarding rule.rules network.limitOf network.emptyNetwork network.add network.built cabling.portOf cabling.plugIn cabling.plugHost cabling.plugLink cabling.plugAll cabling.plugsOf cabling.plugAt cabling.isLive cabling.isHosts cabling.maskOf cabling.setupOf seat.freshSeat seat.fromHost seat.fromLink seat.stepOf flight.without flight.spared event.addressOf send.joins send.receives send.sendOn send.sendAt send.sendFrom send.sendOut turn.ownRefusal turn.hostOf turn.plugOf turn.outboxOf turn.steps turn.hostArrival turn.presents turn.portTo turn.copyArrival turn.takes turn.sets turn.headOf turn.turnOf bench.inFlight bench.seatAt bench.freshHeads bench.freshBench events.follow events.turnIn events.eventOf counters.adds counters.plus rule.nonceOn words.holdsAt words.addressOfHost words.homeOf demand.frameOf
-all-free = refl
-
-all-provided : allProvided (words.addressOfHost (freshState ring) 0) (demand.frameOf (freshState ring) 0) (leaves (freshState ring) (sends 0 away)) takings ≡ true
-unfolding ring allProvided allKeep leaves table.emptyTable table.slotOf table.foundAt table.lookupOf table.put table.slotFor table.learnAt table.learnOf table.eraseAt table.eraseOf filter.hash filter.cellOf filter.same filter.empty filter.standing filter.hasCell filter.holds filter.overwrites filter.recorded wire.numberAfter wire.number masks.names masks.allBut rule.rule2 rule.isDuplicate rule.rule3 rule.overwrote3 rule.erases rule.rule5 rule.learns rule.rule6 rule.learning rule.standing rule.rule9 rule.rule10 rule.rule11 rule.onward rule.forwarding rule.rules network.limitOf network.emptyNetwork network.add network.built cabling.portOf cabling.plugIn cabling.plugHost cabling.plugLink cabling.plugAll cabling.plugsOf cabling.plugAt cabling.isLive cabling.isHosts cabling.maskOf cabling.setupOf seat.freshSeat seat.fromHost seat.fromLink seat.stepOf flight.without flight.spared event.addressOf send.joins send.receives send.sendOn send.sendAt send.sendFrom send.sendOut turn.ownRefusal turn.hostOf turn.plugOf turn.outboxOf turn.steps turn.hostArrival turn.presents turn.portTo turn.copyArrival turn.takes turn.sets turn.headOf turn.turnOf bench.inFlight bench.seatAt bench.freshHeads bench.freshBench events.follow events.turnIn events.eventOf counters.adds counters.plus rule.nonceOn words.holdsAt words.addressOfHost words.homeOf demand.frameOf
-all-provided = refl
-
-all-taken : ends (freshState ring) (sends 0 away ∷ takings) .bench .flying ≡ 0
-unfolding ring ends leaves table.emptyTable table.slotOf table.foundAt table.lookupOf table.put table.slotFor table.learnAt table.learnOf table.eraseAt table.eraseOf filter.hash filter.cellOf filter.same filter.empty filter.standing filter.hasCell filter.holds filter.overwrites filter.recorded wire.numberAfter wire.number masks.names masks.allBut rule.rule2 rule.isDuplicate rule.rule3 rule.overwrote3 rule.erases rule.rule5 rule.learns rule.rule6 rule.learning rule.standing rule.rule9 rule.rule10 rule.rule11 rule.onward rule.forwarding rule.rules network.limitOf network.emptyNetwork network.add network.built cabling.portOf cabling.plugIn cabling.plugHost cabling.plugLink cabling.plugAll cabling.plugsOf cabling.plugAt cabling.isLive cabling.isHosts cabling.maskOf cabling.setupOf seat.freshSeat seat.fromHost seat.fromLink seat.stepOf flight.without flight.spared event.addressOf send.joins send.receives send.sendOn send.sendAt send.sendFrom send.sendOut turn.ownRefusal turn.hostOf turn.plugOf turn.outboxOf turn.steps turn.hostArrival turn.presents turn.portTo turn.copyArrival turn.takes turn.sets turn.headOf turn.turnOf bench.inFlight bench.seatAt bench.freshHeads bench.freshBench events.follow events.turnIn events.eventOf counters.adds counters.plus rule.nonceOn words.holdsAt words.addressOfHost words.homeOf demand.frameOf
-all-taken = refl
+computed : Computed
+unfolding ring allFree allProvided allKeep ends leaves table.emptyTable table.slotOf table.foundAt table.lookupOf table.put table.slotFor table.learnAt table.learnOf table.eraseAt table.eraseOf filter.hash filter.cellOf filter.same filter.empty filter.standing filter.hasCell filter.holds filter.overwrites filter.recorded wire.numberAfter wire.number masks.names masks.allBut rule.rule2 rule.isDuplicate rule.rule3 rule.overwrote3 rule.erases rule.rule5 rule.learns rule.rule6 rule.learning rule.standing rule.rule9 rule.rule10 rule.rule11 rule.onward rule.forwarding rule.rules network.limitOf network.emptyNetwork network.add network.built cabling.portOf cabling.plugIn cabling.plugHost cabling.plugLink cabling.plugAll cabling.plugsOf cabling.plugAt cabling.isLive cabling.isHosts cabling.maskOf cabling.setupOf seat.freshSeat seat.fromHost seat.fromLink seat.stepOf flight.without flight.spared event.addressOf send.joins send.receives send.sendOn send.sendAt send.sendFrom send.sendOut turn.ownRefusal turn.hostOf turn.plugOf turn.outboxOf turn.steps turn.hostArrival turn.presents turn.portTo turn.copyArrival turn.takes turn.sets turn.headOf turn.turnOf bench.inFlight bench.seatAt bench.freshHeads bench.freshBench events.follow events.turnIn events.eventOf counters.adds counters.plus rule.nonceOn words.holdsAt words.addressOfHost words.homeOf demand.frameOf
+computed =
+    record {
+      hosts = refl;
+      switches = refl;
+      limit-0 = refl;
+      limit-1 = refl;
+      limit-2 = refl;
+      is = refl;
+      starts = refl;
+      placed = refl;
+      provided = refl;
+      goes = refl;
+      quiet = refl;
+      at-1 = record { near = record { link = 0; second = false }; there = omega arith; live = refl; from = refl; to = refl };
+      at-2 = record { near = record { link = 1; second = false }; there = omega arith; live = refl; from = refl; to = refl };
+      all = refl;
+      first-home = refl;
+      home-1 = refl;
+      home-2 = refl;
+    }
 
 -- ---- Every premise is met
 
 -- a fresh bench names nobody
-fresh-nowhere : (n : Network) → networkFault n ≡ 0 → {x : ℕ} → Source x → NamesNowhere x (bench.freshBench n)
+fresh-nowhere : (n : Network) {x : ℕ} → Source x → NamesNowhere x (bench.freshBench n)
 unfolding bench.freshBench bench.inFlight seat.freshSeat
-fresh-nowhere n described {x} source =
+fresh-nowhere n {x} source =
     record {
       entries = λ k h held. absent-iff (empty-well-formed 0 .sized) x .0 (empty-absent x) (subst (λ (s : Seat). Holds (s .switch .table) x) (fresh-seat n k h) held);
       records = λ k h named. zeros-name-none seat.cellBytes (source-some (source .below) (source .nonzero)) (subst (λ (s : Seat). Names width (bytesOf 6 x) (s .cells)) (fresh-seat n k h) named);
       copies = record { each = λ c m. absurd (List·Memᴰ·not-nil m) };
     }
 
-in-run : InRun (freshState ring)
+in-run : InRun fresh
 in-run = fresh-in-run ring fine
 
--- the first event takes effect
-first-free : isFree (freshState ring) (sends 0 away) ≡ true
-unfolding ring table.emptyTable table.slotOf table.foundAt table.lookupOf table.put table.slotFor table.learnAt table.learnOf table.eraseAt table.eraseOf filter.hash filter.cellOf filter.same filter.empty filter.standing filter.hasCell filter.holds filter.overwrites filter.recorded wire.numberAfter wire.number masks.names masks.allBut rule.rule2 rule.isDuplicate rule.rule3 rule.overwrote3 rule.erases rule.rule5 rule.learns rule.rule6 rule.learning rule.standing rule.rule9 rule.rule10 rule.rule11 rule.onward rule.forwarding rule.rules network.limitOf network.emptyNetwork network.add network.built cabling.portOf cabling.plugIn cabling.plugHost cabling.plugLink cabling.plugAll cabling.plugsOf cabling.plugAt cabling.isLive cabling.isHosts cabling.maskOf cabling.setupOf seat.freshSeat seat.fromHost seat.fromLink seat.stepOf flight.without flight.spared event.addressOf send.joins send.receives send.sendOn send.sendAt send.sendFrom send.sendOut turn.ownRefusal turn.hostOf turn.plugOf turn.outboxOf turn.steps turn.hostArrival turn.presents turn.portTo turn.copyArrival turn.takes turn.sets turn.headOf turn.turnOf bench.inFlight bench.seatAt bench.freshHeads bench.freshBench events.follow events.turnIn events.eventOf counters.adds counters.plus rule.nonceOn words.holdsAt words.addressOfHost words.homeOf demand.frameOf
-first-free = refl
+there : 0 < ring .nhosts
+unfolding bench.freshBench
+there = omega (arith, computed .hosts)
 
-there : 0 < freshState ring .bench .network .nhosts
-unfolding ring table.emptyTable table.slotOf table.foundAt table.lookupOf table.put table.slotFor table.learnAt table.learnOf table.eraseAt table.eraseOf filter.hash filter.cellOf filter.same filter.empty filter.standing filter.hasCell filter.holds filter.overwrites filter.recorded wire.numberAfter wire.number masks.names masks.allBut rule.rule2 rule.isDuplicate rule.rule3 rule.overwrote3 rule.erases rule.rule5 rule.learns rule.rule6 rule.learning rule.standing rule.rule9 rule.rule10 rule.rule11 rule.onward rule.forwarding rule.rules network.limitOf network.emptyNetwork network.add network.built cabling.portOf cabling.plugIn cabling.plugHost cabling.plugLink cabling.plugAll cabling.plugsOf cabling.plugAt cabling.isLive cabling.isHosts cabling.maskOf cabling.setupOf seat.freshSeat seat.fromHost seat.fromLink seat.stepOf flight.without flight.spared event.addressOf send.joins send.receives send.sendOn send.sendAt send.sendFrom send.sendOut turn.ownRefusal turn.hostOf turn.plugOf turn.outboxOf turn.steps turn.hostArrival turn.presents turn.portTo turn.copyArrival turn.takes turn.sets turn.headOf turn.turnOf bench.inFlight bench.seatAt bench.freshHeads bench.freshBench events.follow events.turnIn events.eventOf counters.adds counters.plus rule.nonceOn words.holdsAt words.addressOfHost words.homeOf demand.frameOf
-there = ltb-true 0 3 refl
+limits : LimitsReach (fresh .bench .network)
+limits zero h = omega (arith, computed .switches, computed .limit-0)
+limits (suc zero) h = omega (arith, computed .switches, computed .limit-1)
+limits (suc (suc zero)) h = omega (arith, computed .switches, computed .limit-2)
+limits (suc (suc (suc k))) h = absurd (omega (arith, computed .switches))
 
-not-itself : event.addressOf away ≢ words.addressOfHost (freshState ring) 0
-unfolding ring table.emptyTable table.slotOf table.foundAt table.lookupOf table.put table.slotFor table.learnAt table.learnOf table.eraseAt table.eraseOf filter.hash filter.cellOf filter.same filter.empty filter.standing filter.hasCell filter.holds filter.overwrites filter.recorded wire.numberAfter wire.number masks.names masks.allBut rule.rule2 rule.isDuplicate rule.rule3 rule.overwrote3 rule.erases rule.rule5 rule.learns rule.rule6 rule.learning rule.standing rule.rule9 rule.rule10 rule.rule11 rule.onward rule.forwarding rule.rules network.limitOf network.emptyNetwork network.add network.built cabling.portOf cabling.plugIn cabling.plugHost cabling.plugLink cabling.plugAll cabling.plugsOf cabling.plugAt cabling.isLive cabling.isHosts cabling.maskOf cabling.setupOf seat.freshSeat seat.fromHost seat.fromLink seat.stepOf flight.without flight.spared event.addressOf send.joins send.receives send.sendOn send.sendAt send.sendFrom send.sendOut turn.ownRefusal turn.hostOf turn.plugOf turn.outboxOf turn.steps turn.hostArrival turn.presents turn.portTo turn.copyArrival turn.takes turn.sets turn.headOf turn.turnOf bench.inFlight bench.seatAt bench.freshHeads bench.freshBench events.follow events.turnIn events.eventOf counters.adds counters.plus rule.nonceOn words.holdsAt words.addressOfHost words.homeOf demand.frameOf
-not-itself = eqb-false 9 2 refl
-
-limits : LimitsReach (freshState ring .bench .network)
-unfolding ring table.emptyTable table.slotOf table.foundAt table.lookupOf table.put table.slotFor table.learnAt table.learnOf table.eraseAt table.eraseOf filter.hash filter.cellOf filter.same filter.empty filter.standing filter.hasCell filter.holds filter.overwrites filter.recorded wire.numberAfter wire.number masks.names masks.allBut rule.rule2 rule.isDuplicate rule.rule3 rule.overwrote3 rule.erases rule.rule5 rule.learns rule.rule6 rule.learning rule.standing rule.rule9 rule.rule10 rule.rule11 rule.onward rule.forwarding rule.rules network.limitOf network.emptyNetwork network.add network.built cabling.portOf cabling.plugIn cabling.plugHost cabling.plugLink cabling.plugAll cabling.plugsOf cabling.plugAt cabling.isLive cabling.isHosts cabling.maskOf cabling.setupOf seat.freshSeat seat.fromHost seat.fromLink seat.stepOf flight.without flight.spared event.addressOf send.joins send.receives send.sendOn send.sendAt send.sendFrom send.sendOut turn.ownRefusal turn.hostOf turn.plugOf turn.outboxOf turn.steps turn.hostArrival turn.presents turn.portTo turn.copyArrival turn.takes turn.sets turn.headOf turn.turnOf bench.inFlight bench.seatAt bench.freshHeads bench.freshBench events.follow events.turnIn events.eventOf counters.adds counters.plus rule.nonceOn words.holdsAt words.addressOfHost words.homeOf demand.frameOf
-limits zero h = omega arith
-limits (suc zero) h = omega arith
-limits (suc (suc zero)) h = omega arith
-limits (suc (suc (suc k))) h = absurd (omega arith)
-
-starts : Starts (freshState ring) 0 away
-unfolding words.addressOfHost runOf bench.freshBench
+starts : Starts fresh 0 (record { b0 = 0; b1 = 0; b2 = 0; b3 = 0; b4 = 0; b5 = 9 })
+unfolding addressOfHost runOf bench.freshBench event.addressOf wire.number wire.numberAfter
 starts =
     record {
       reachable = record { network = ring; accepted = fine; events = []; leads = refl };
       host = there;
-      nowhere = fresh-nowhere ring fine (host-source ring fine 0 there);
-      accepted = free-goes in-run (sends 0 away) first-free;
-      not-itself = not-itself;
+      nowhere = fresh-nowhere ring (host-source ring fine 0 there);
+      accepted = free-goes in-run first (computed .starts);
+      not-itself = λ e. omega (arith, e, computed .is);
       limits = limits;
     }
 
-none-lost : lostNone (words.addressOfHost (freshState ring) 0) (events.eventOf (bench.freshBench ring) (sends 0 away) .answer) ≡ true
-unfolding ring table.emptyTable table.slotOf table.foundAt table.lookupOf table.put table.slotFor table.learnAt table.learnOf table.eraseAt table.eraseOf filter.hash filter.cellOf filter.same filter.empty filter.standing filter.hasCell filter.holds filter.overwrites filter.recorded wire.numberAfter wire.number masks.names masks.allBut rule.rule2 rule.isDuplicate rule.rule3 rule.overwrote3 rule.erases rule.rule5 rule.learns rule.rule6 rule.learning rule.standing rule.rule9 rule.rule10 rule.rule11 rule.onward rule.forwarding rule.rules network.limitOf network.emptyNetwork network.add network.built cabling.portOf cabling.plugIn cabling.plugHost cabling.plugLink cabling.plugAll cabling.plugsOf cabling.plugAt cabling.isLive cabling.isHosts cabling.maskOf cabling.setupOf seat.freshSeat seat.fromHost seat.fromLink seat.stepOf flight.without flight.spared event.addressOf send.joins send.receives send.sendOn send.sendAt send.sendFrom send.sendOut turn.ownRefusal turn.hostOf turn.plugOf turn.outboxOf turn.steps turn.hostArrival turn.presents turn.portTo turn.copyArrival turn.takes turn.sets turn.headOf turn.turnOf bench.inFlight bench.seatAt bench.freshHeads bench.freshBench events.follow events.turnIn events.eventOf counters.adds counters.plus rule.nonceOn words.holdsAt words.addressOfHost words.homeOf demand.frameOf
-none-lost = refl
+room : LosesNone sender (happensAt fresh first .happened .answer)
+room = subst (LosesNone sender) (sym (accepted-answer fresh first (free-goes in-run first (computed .starts)))) (loses sender (events.eventOf (fresh .bench) first .answer) (computed .placed))
 
-room : LosesNone (words.addressOfHost (freshState ring) 0) (happensAt (freshState ring) (sends 0 away) .happened .answer)
-room =
-    subst (LosesNone (words.addressOfHost (freshState ring) 0)) (sym (accepted-answer (freshState ring) (sends 0 away) (free-goes in-run (sends 0 away) first-free)))
-    (loses (words.addressOfHost (freshState ring) 0) (events.eventOf (bench.freshBench ring) (sends 0 away) .answer) none-lost)
-
-others : AllProvided 0 (words.addressOfHost (freshState ring) 0) (demand.frameOf (freshState ring) 0) (after (freshState ring) (sends 0 away)) takings
+others : AllProvided 0 sender (frameOf fresh 0) (after fresh first) takings
 others =
-    let effect = free in-run (sends 0 away) first-free in
-    subst (λ s. AllProvided 0 (words.addressOfHost (freshState ring) 0) (demand.frameOf (freshState ring) 0) s takings) (sym effect)
-    (provided 0 (words.addressOfHost (freshState ring) 0) (demand.frameOf (freshState ring) 0) (subst InRun effect (event-in-run in-run (sends 0 away))) takings all-provided)
+    let effect = free in-run first (computed .starts) in
+    subst (λ s. AllProvided 0 sender (frameOf fresh 0) s takings) (sym effect) (provided 0 sender (frameOf fresh 0) (subst InRun effect (event-in-run in-run first)) takings (computed .provided))
 
--- ---- and so the claims hold, with no copy left in flight and all switches joined
+-- ---- So the claims hold in the end
 
-end : runOf (freshState ring) (sends 0 away ∷ takings) ≡ ends (freshState ring) (sends 0 away ∷ takings)
-end = run-ends in-run (sends 0 away ∷ takings) all-free
+ends-there : runOf fresh (first ∷ takings) ≡ end
+ends-there = run-ends in-run (first ∷ takings) (computed .goes)
 
-plugged-in : PluggedIn 0 (words.addressOfHost (freshState ring) 0) (words.homeOf (freshState ring) 0 .switch) (runOf (freshState ring) (sends 0 away ∷ takings)) (historyOf (freshState ring) (sends 0 away ∷ takings))
-plugged-in = first-plug-in (freshState ring) 0 away takings starts room others
+plugged-in : PluggedIn 0 sender home end (historyOf fresh (first ∷ takings))
+plugged-in =
+    subst (λ s. PluggedIn 0 sender home s (historyOf fresh (first ∷ takings))) ends-there
+    (first-plug-in fresh 0 (record { b0 = 0; b1 = 0; b2 = 0; b3 = 0; b4 = 0; b5 = 9 }) takings starts room others)
 
-quiet : NoneFlies (words.addressOfHost (freshState ring) 0) (runOf (freshState ring) (sends 0 away ∷ takings) .bench)
+quiet : NoneFlies sender (end .bench)
 unfolding bench.inFlight
-quiet w =
-    List·Memᴰ·not-nil (subst (λ n. List·Memᴰ (w .copy) (take n (runOf (freshState ring) (sends 0 away ∷ takings) .bench .copies))) (ap (λ (s : State). s .bench .flying) end ∙ all-taken) (w .there))
+quiet w = List·Memᴰ·not-nil (subst (λ n. List·Memᴰ (w .copy) (take n (end .bench .copies))) (computed .quiet) (w .there))
 
--- from the first switch a live cable leads to each other
-joined : (k : ℕ) → k < 3 → JoinedTo (ends (freshState ring) (sends 0 away ∷ takings) .bench) (words.homeOf (freshState ring) 0 .switch) k
-unfolding ring ends leaves table.emptyTable table.slotOf table.foundAt table.lookupOf table.put table.slotFor table.learnAt table.learnOf table.eraseAt table.eraseOf filter.hash filter.cellOf filter.same filter.empty filter.standing filter.hasCell filter.holds filter.overwrites filter.recorded wire.numberAfter wire.number masks.names masks.allBut rule.rule2 rule.isDuplicate rule.rule3 rule.overwrote3 rule.erases rule.rule5 rule.learns rule.rule6 rule.learning rule.standing rule.rule9 rule.rule10 rule.rule11 rule.onward rule.forwarding rule.rules network.limitOf network.emptyNetwork network.add network.built cabling.portOf cabling.plugIn cabling.plugHost cabling.plugLink cabling.plugAll cabling.plugsOf cabling.plugAt cabling.isLive cabling.isHosts cabling.maskOf cabling.setupOf seat.freshSeat seat.fromHost seat.fromLink seat.stepOf flight.without flight.spared event.addressOf send.joins send.receives send.sendOn send.sendAt send.sendFrom send.sendOut turn.ownRefusal turn.hostOf turn.plugOf turn.outboxOf turn.steps turn.hostArrival turn.presents turn.portTo turn.copyArrival turn.takes turn.sets turn.headOf turn.turnOf bench.inFlight bench.seatAt bench.freshHeads bench.freshBench events.follow events.turnIn events.eventOf counters.adds counters.plus rule.nonceOn words.holdsAt words.addressOfHost words.homeOf demand.frameOf
-joined zero h = words.here
-joined (suc zero) h = words.over words.here (record { near = record { link = 0; second = false }; there = ltb-true 0 3 refl; live = refl; from = refl; to = refl })
-joined (suc (suc zero)) h = words.over words.here (record { near = record { link = 1; second = false }; there = ltb-true 1 3 refl; live = refl; from = refl; to = refl })
+joined : (k : ℕ) → k < 3 → JoinedTo (end .bench) home k
+joined zero h = subst (JoinedTo (end .bench) home) (computed .first-home) words.here
+joined (suc zero) h = words.over words.here (computed .at-1)
+joined (suc (suc zero)) h = words.over words.here (computed .at-2)
 joined (suc (suc (suc k))) h = absurd (omega arith)
 
--- each switch has a record in the end
-pub each-has-a-record : (k : ℕ) → k < 3 → HasRecord (words.addressOfHost (freshState ring) 0) (runOf (freshState ring) (sends 0 away ∷ takings) .bench) k
-each-has-a-record k h = plugged-in .records quiet k (subst (λ (s : State). JoinedTo (s .bench) (words.homeOf (freshState ring) 0 .switch) k) (sym end) (joined k h))
+-- each switch has a record,
+pub each-has-a-record : (k : ℕ) → k < 3 → HasRecord sender (runOf fresh (first ∷ takings) .bench) k
+each-has-a-record k h = subst (λ (s : State). HasRecord sender (s .bench) k) (sym ends-there) (plugged-in .records quiet k (joined k h))
 
--- hosts 1 and 2 are on them
-hosts-there : (i : ℕ) → i < 3 → (i < ends (freshState ring) (sends 0 away ∷ takings) .bench .network .nhosts) × (words.homeOf (ends (freshState ring) (sends 0 away ∷ takings)) i .switch ≡ i)
-unfolding ring ends leaves table.emptyTable table.slotOf table.foundAt table.lookupOf table.put table.slotFor table.learnAt table.learnOf table.eraseAt table.eraseOf filter.hash filter.cellOf filter.same filter.empty filter.standing filter.hasCell filter.holds filter.overwrites filter.recorded wire.numberAfter wire.number masks.names masks.allBut rule.rule2 rule.isDuplicate rule.rule3 rule.overwrote3 rule.erases rule.rule5 rule.learns rule.rule6 rule.learning rule.standing rule.rule9 rule.rule10 rule.rule11 rule.onward rule.forwarding rule.rules network.limitOf network.emptyNetwork network.add network.built cabling.portOf cabling.plugIn cabling.plugHost cabling.plugLink cabling.plugAll cabling.plugsOf cabling.plugAt cabling.isLive cabling.isHosts cabling.maskOf cabling.setupOf seat.freshSeat seat.fromHost seat.fromLink seat.stepOf flight.without flight.spared event.addressOf send.joins send.receives send.sendOn send.sendAt send.sendFrom send.sendOut turn.ownRefusal turn.hostOf turn.plugOf turn.outboxOf turn.steps turn.hostArrival turn.presents turn.portTo turn.copyArrival turn.takes turn.sets turn.headOf turn.turnOf bench.inFlight bench.seatAt bench.freshHeads bench.freshBench events.follow events.turnIn events.eventOf counters.adds counters.plus rule.nonceOn words.holdsAt words.addressOfHost words.homeOf demand.frameOf
-hosts-there zero h = (h, refl)
-hosts-there (suc zero) h = (h, refl)
-hosts-there (suc (suc zero)) h = (h, refl)
-hosts-there (suc (suc (suc k))) h = absurd (omega arith)
-
--- each other host has received one copy
-pub each-other-received-one : (i : ℕ) → i < 3 → i ≢ 0 → times (receivesBy (words.addressOfHost (freshState ring) 0) i) (historyOf (freshState ring) (sends 0 away ∷ takings)) ≡ 1
-each-other-received-one i h other =
-    let claims =
-    subst (λ s. PluggedIn 0 (words.addressOfHost (freshState ring) 0) (words.homeOf (freshState ring) 0 .switch) s (historyOf (freshState ring) (sends 0 away ∷ takings))) end plugged-in in
-    let none = subst (λ (s : State). NoneFlies (words.addressOfHost (freshState ring) 0) (s .bench)) end quiet in
-    let host = hosts-there i h in
-    claims .received none i (host .0) other
-    (subst (λ k. JoinedTo (ends (freshState ring) (sends 0 away ∷ takings) .bench) (words.homeOf (freshState ring) 0 .switch) k) (sym (host .1)) (joined i h))
+-- and each other host has received one copy
+pub each-other-received-one : (i : ℕ) → i < 3 → i ≢ 0 → times (receivesBy sender i) (historyOf fresh (first ∷ takings)) ≡ 1
+each-other-received-one zero h other = absurd (other refl)
+each-other-received-one (suc zero) h other =
+    plugged-in .received quiet 1 (omega (arith, computed .all)) other (subst (JoinedTo (end .bench) home) (sym (computed .home-1)) (joined 1 h))
+each-other-received-one (suc (suc zero)) h other =
+    plugged-in .received quiet 2 (omega (arith, computed .all)) other (subst (JoinedTo (end .bench) home) (sym (computed .home-2)) (joined 2 h))
+each-other-received-one (suc (suc (suc i))) h other = absurd (omega arith)

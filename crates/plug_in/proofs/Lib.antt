@@ -19,3 +19,4 @@ mod Following
 mod Claims
 mod Trying
 mod Example
+mod Without

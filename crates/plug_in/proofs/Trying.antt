@@ -18,9 +18,9 @@ use Rattle.bench.specs.declared.Bench.{Bench}
 use Rattle.bench.specs.Events.{eventOf}
 use Rattle.counters.specs.Counters.{counted}
 use Rattle.counters.specs.Event.{eventRefusal, happensBy, happensOf, mostEvents}
-use Rattle.counters.specs.History.{InRun, State, after, happensAt, runOf}
+use Rattle.counters.specs.History.{InRun, Moment, State, after, historyOf, runOf}
 use Rattle.counters.proofs.Laws.{event-accepted-in-run, event-in-run}
-use Rattle.plug_in.specs.Demand.{AllProvided, Provided}
+use Rattle.plug_in.specs.Demand.{AllProvided}
 use Rattle.plug_in.specs.Words.{KeepsRecord, LosesNone, OfOthers, holdsAt}
 use Rattle.plug_in.proofs.Happening.{accepted-answer, accepted-bench}
 
@@ -154,3 +154,20 @@ provided A x key {s} r (e ∷ es) q =
       },
       subst (λ t. AllProvided A x key t es) (sym effect) (provided A x key (subst InRun effect (event-in-run r e)) es (k .1)),
     )
+
+-- ---- Its history
+
+-- what events answer that take effect
+unfoldable pub tells : State → List Event → List Moment
+tells s [] = []
+tells s (e ∷ es) = record { event = e; answer = eventOf (s .bench) e .answer } ∷ tells (leaves s e) es
+
+-- is the history of the run
+pub history-tells : {s : State} → InRun s → (es : List Event) → allFree s es ≡ true → historyOf s es ≡ tells s es
+unfolding historyOf tells allFree
+history-tells r [] q = refl
+history-tells {s} r (e ∷ es) q =
+    let p = both (isFree s e) (allFree (leaves s e) es) q in
+    let effect = free r e (p .0) in
+    ap (λ a. record { event = e; answer = a } ∷ historyOf (after s e) es) (accepted-answer s e (free-goes r e (p .0)))
+    ∙ ap (λ h. record { event = e; answer = eventOf (s .bench) e .answer } ∷ h) (ap (λ t. historyOf t es) effect ∙ history-tells (subst InRun effect (event-in-run r e)) es (p .1))
