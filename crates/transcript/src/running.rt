@@ -1,12 +1,11 @@
 // The run: one loop over the events of an input.
 ghost use mathlib.Core.Path.{_≡_};
 ghost use Prim.Native.Nat.{_≤_};
-ghost use lib.ListN.{length};
-ghost use Rattle.wire.specs.Wire.{put};
 ghost use Rattle.rules.specs.Verdict.{letterOf};
 ghost use Rattle.flight.specs.Flight.{copiesIn, most};
 ghost use Rattle.turn.specs.Turn.{Kept, Turns, refusalOf};
-ghost use Rattle.transcript.specs.Transcript.{lineFor, mostPrinted, receivedBy, verdictOf};
+ghost use Rattle.bench.specs.Bench.{noSeat};
+ghost use Rattle.transcript.specs.Transcript.{lineFor, receivedBy, verdictOf};
 ghost use Rattle.transcript.specs.Running.{CanAct, CanRun, Ran, actOf, concerned};
 use cabling::plugs_of;
 use cabling::setup_of;
@@ -59,6 +58,7 @@ fn verdict_of(a: Answer) -> u8
     }
 }
 
+// The hosts that received, bit i for host i.
 fn received_by(a: Answer) -> u32
     ensures { λ r. ⌜ r ≡ receivedBy a ⌝ }
 {
@@ -69,6 +69,7 @@ fn received_by(a: Answer) -> u32
     }
 }
 
+// The refusal number, or 0.
 fn refusal_of(a: Answer) -> u8
     ensures { λ r. ⌜ r ≡ refusalOf a ⌝ }
 {
@@ -79,6 +80,7 @@ fn refusal_of(a: Answer) -> u8
     }
 }
 
+// An event's line, with the copies in flight behind it.
 fn line_for(number: u32, e: Event, a: Answer, flying: usize) -> Line
     requires { ⌜ flying ≤ most ⌝ }
     ensures { λ r. ⌜ r ≡ lineFor number e a flying ⌝ }
@@ -91,6 +93,19 @@ fn line_for(number: u32, e: Event, a: Answer, flying: usize) -> Line
         received: received_by(a),
         flying: flying as u16,
     }
+}
+
+// Nothing learned and nothing recorded; its setup comes with its turn.
+fn unset() -> Seat
+    ensures { λ r. ⌜ r ≡ noSeat ⌝ }
+{
+    Seat::fresh(Setup {
+        ports: 0,
+        live: 0,
+        host: 0,
+        limit: 0,
+        salt: 0,
+    })
 }
 
 // The number of the head that an event concerns; the first where the event is refused, which then
@@ -138,13 +153,7 @@ pub fn run(network: Network, input: &[u8], start: usize, out: &mut [u8]) -> usiz
 {
     let plugs = plugs_of(network);
     let mut up = [true; Network::LINKS];
-    let none = Seat::fresh(Setup {
-        ports: 0,
-        live: 0,
-        host: 0,
-        limit: 0,
-        salt: 0,
-    });
+    let none = unset();
     let mut seats = [none; Network::SWITCHES];
     let empty = [0u64; 3];
     let mut words = [empty; Copy::MOST];

@@ -23,11 +23,11 @@ abbrev μ-loop : tie.MeasureT-loop
 plugs-of-requires : tie.Need-plugs-of-requires Inv-loop μ-loop
 plugs-of-requires c κs = search needs
 
-fresh-requires : tie.Need-fresh-requires Inv-loop μ-loop
-fresh-requires c κs = search needs
+unset-requires : tie.Need-unset-requires Inv-loop μ-loop
+unset-requires c κs = search needs
 
 loop-holds : tie.Need-loop-holds Inv-loop μ-loop
-loop-holds c = going-starts (c .before .before .before .before .args .start) (c .before .before .before .before .pre) (c .fresh .ensures)
+loop-holds c = going-starts (c .before .before .before .before .args .start) (c .before .before .before .before .pre) (c .unset .ensures)
 
 read-event-requires : tie.Need-read-event-requires Inv-loop μ-loop
 read-event-requires c κs = search needs
@@ -155,7 +155,7 @@ run-spec =
     Inv-loop
     μ-loop
     plugs-of-requires
-    fresh-requires
+    unset-requires
     loop-holds
     read-event-requires
     enum-known-e
