@@ -6,8 +6,8 @@
 ghost use mathlib.Core.Path.{_≡_};
 ghost use mathlib.Core.Bool.{cond};
 ghost use Prim.Native.Nat.{_+_, _*_, _<_, _≤_, min};
-ghost use lib.ListN.{getD, set};
-ghost use Rattle.network.specs.Network.{mostHosts, mostLinks, noLink, noSwitch};
+ghost use lib.ListN.{set};
+ghost use Rattle.network.specs.Network.{mostHosts, mostLinks};
 ghost use Rattle.rules.specs.Mask.{only};
 ghost use Rattle.cabling.specs.Cabling.{isHosts, isLive, mostPorts, otherEnd, placeOf, plugAll, plugAt, plugHost, plugIn, plugLink, plugsOf, portOf, setupOf};
 use network::Host;
@@ -15,6 +15,8 @@ use network::Link;
 use network::Network;
 use network::Port;
 use network::Switch;
+use network::places::nth_link;
+use network::places::nth_switch;
 use rules::Setup;
 
 // One end of a link.
@@ -38,38 +40,6 @@ pub const PLACES: usize = Network::SWITCHES * Switch::PORTS as usize;
 const FIRST_HOST: u8 = 1;
 
 const FIRST_LINK: u8 = 33;
-
-// Element i, all zeros behind the array's end.
-fn nth_switch(switches: [Switch; Network::SWITCHES], i: usize) -> Switch
-    ensures { λ r. ⌜ r ≡ getD switches i noSwitch ⌝ }
-{
-    if i < Network::SWITCHES {
-        return switches[i];
-    }
-    Switch {
-        ports: 0,
-        limit: 0,
-        salt: 0,
-    }
-}
-
-fn nth_link(links: [Link; Network::LINKS], i: usize) -> Link
-    ensures { λ r. ⌜ r ≡ getD links i noLink ⌝ }
-{
-    if i < Network::LINKS {
-        return links[i];
-    }
-    Link {
-        first: Port {
-            switch: 0,
-            number: 0,
-        },
-        second: Port {
-            switch: 0,
-            number: 0,
-        },
-    }
-}
 
 // The lesser of two numbers.
 fn at_most(count: u8, most: u8) -> u8

@@ -4,7 +4,6 @@
 // document's order. Arrays go in whole with a count: what a count leaves unused is never asked.
 ghost use mathlib.Core.Path.{_≡_};
 ghost use Prim.Native.Nat.{_-_};
-ghost use lib.ListN.{getD};
 ghost use Rattle.network.specs.Network.{add, noHost, noLink, noSwitch, upTo};
 ghost use Rattle.network.specs.Checks.{any, badAddress, hasAddress, hostOn, linkOn, notAbove, outOfOrder, outOfRange, place, portTaken, recordFault, addressOut, switchOut, stands, taken, tooMany};
 use crate::Host;
@@ -13,6 +12,9 @@ use crate::Network;
 use crate::Port;
 use crate::Record;
 use crate::Switch;
+use crate::places::nth_host;
+use crate::places::nth_link;
+use crate::places::nth_switch;
 
 // An address has six bytes, and its group bit is the lowest of the first.
 const ADDRESSES: u64 = 0x1_0000_0000_0000;
@@ -24,53 +26,6 @@ fn place(p: Port) -> u64
     ensures { λ r. ⌜ r ≡ place p ⌝ }
 {
     wire::wide(p.switch) * 256 + wire::wide(p.number)
-}
-
-// Element i, all zeros behind the array's end.
-pub(crate) fn nth_switch(switches: [Switch; Network::SWITCHES], i: usize) -> Switch
-    ensures { λ r. ⌜ r ≡ getD switches i noSwitch ⌝ }
-{
-    if i < Network::SWITCHES {
-        return switches[i];
-    }
-    Switch {
-        ports: 0,
-        limit: 0,
-        salt: 0,
-    }
-}
-
-pub(crate) fn nth_host(hosts: [Host; Network::HOSTS], i: usize) -> Host
-    ensures { λ r. ⌜ r ≡ getD hosts i noHost ⌝ }
-{
-    if i < Network::HOSTS {
-        return hosts[i];
-    }
-    Host {
-        port: Port {
-            switch: 0,
-            number: 0,
-        },
-        address: 0,
-    }
-}
-
-pub(crate) fn nth_link(links: [Link; Network::LINKS], i: usize) -> Link
-    ensures { λ r. ⌜ r ≡ getD links i noLink ⌝ }
-{
-    if i < Network::LINKS {
-        return links[i];
-    }
-    Link {
-        first: Port {
-            switch: 0,
-            number: 0,
-        },
-        second: Port {
-            switch: 0,
-            number: 0,
-        },
-    }
 }
 
 // One of the first n hosts has its cable at a place.

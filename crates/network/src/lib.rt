@@ -18,6 +18,7 @@ ghost use Rattle.network.specs.Describe.{image, readEnd, readFault, read
 
 mod checks;
 mod format;
+pub mod places;
 mod records;
 
 // A port of a switch: the switch's number, and the port's on it.

@@ -8,8 +8,8 @@ ghost use Rattle.network.specs.Network.{noSwitch, records};
 ghost use Rattle.network.specs.Describe.{image};
 use crate::Network;
 use crate::Record;
-use crate::checks;
 use crate::format;
+use crate::places;
 
 // How many records the network's description has.
 pub(crate) fn count(n: Network) -> usize
@@ -27,15 +27,15 @@ pub(crate) fn record_at(n: Network, i: usize) -> Record
     let nhosts = n.nhosts as usize;
     if i < nswitches {
         let switches = n.switches;
-        return Record::Switch(checks::nth_switch(switches, i));
+        return Record::Switch(places::nth_switch(switches, i));
     }
     let j = i - nswitches;
     if j < nhosts {
         let hosts = n.hosts;
-        return Record::Host(checks::nth_host(hosts, j));
+        return Record::Host(places::nth_host(hosts, j));
     }
     let links = n.links;
-    Record::Link(checks::nth_link(links, j - nhosts))
+    Record::Link(places::nth_link(links, j - nhosts))
 }
 
 // How many bytes the network's description takes.

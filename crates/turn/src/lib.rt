@@ -7,9 +7,9 @@ ghost use mathlib.Core.Bool.{Bool};
 ghost use mathlib.Core.List.{List};
 ghost use mathlib.Core.Path.{_≡_};
 ghost use Prim.Native.Nat.{ℕ, _<_};
-ghost use lib.ListN.{getD, length, take};
+ghost use lib.ListN.{length, take};
 ghost use Rattle.network.specs.declared.Network.{Network};
-ghost use Rattle.network.specs.Network.{mostLinks, noHost};
+ghost use Rattle.network.specs.Network.{mostLinks};
 ghost use Rattle.cabling.specs.Cabling.{plugsOf};
 ghost use Rattle.flight.specs.Flight.{copiesIn, without};
 ghost use Rattle.turn.specs.Send.{Written};
@@ -26,6 +26,7 @@ use flight::take_out;
 use network::Host;
 use network::Network;
 use network::Port;
+use network::places::nth_host;
 use refusal::or_when;
 use rules::Arrival;
 use rules::Verdict;
@@ -60,22 +61,6 @@ pub struct Turned {
     pub seat: Seat,
     pub answer: Answer,
     pub flying: usize,
-}
-
-// Host i, all zeros behind the array's end.
-fn nth_host(hosts: [Host; Network::HOSTS], i: usize) -> Host
-    ensures { λ r. ⌜ r ≡ getD hosts i noHost ⌝ }
-{
-    if i < Network::HOSTS {
-        return hosts[i];
-    }
-    Host {
-        port: Port {
-            switch: 0,
-            number: 0,
-        },
-        address: 0,
-    }
 }
 
 // The host with a number.

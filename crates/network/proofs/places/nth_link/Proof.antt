@@ -1,11 +1,11 @@
 -- Behind the array's end the element is the unused one, as `getD` has it.
 use Rattle.network.specs.Network.{noLink}
 use lib.ListN.{length, List·getD-eq-default}
 use mathlib.Core.Path.{_≡_, sym}
 use native.Mathlib.Omega.{arith}
 use borrow.Author.Needs.{needs}
-use Rattle.cabling.proofs.nth_link.Statement.{statement}
-use Rattle.cabling.proofs.nth_link.Tie as tie
+use Rattle.network.proofs.places.nth_link.Statement.{statement}
+use Rattle.network.proofs.places.nth_link.Tie as tie
 
 mul-result : tie.Need-mul-result
 mul-result c = search needs

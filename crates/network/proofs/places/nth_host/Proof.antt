@@ -4,8 +4,8 @@ use lib.ListN.{length, List·getD-eq-default}
 use mathlib.Core.Path.{_≡_, sym}
 use native.Mathlib.Omega.{arith}
 use borrow.Author.Needs.{needs}
-use Rattle.network.proofs.checks.nth_host.Statement.{statement}
-use Rattle.network.proofs.checks.nth_host.Tie as tie
+use Rattle.network.proofs.places.nth_host.Statement.{statement}
+use Rattle.network.proofs.places.nth_host.Tie as tie
 
 mul-result : tie.Need-mul-result
 mul-result c = search needs
