@@ -2,3 +2,4 @@ pub mod Laws
 mod Bytes
 pub mod RoundTrip
 pub mod Told
+pub mod Doors

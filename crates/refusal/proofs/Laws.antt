@@ -38,8 +38,8 @@ first-none (c ∷ cs) ns e = by-test (c .holds) refl e (first-none cs (ns .1))
     by-test true h q go = absurd (ns .0 q)
     by-test false h q go = (h, go q)
 
--- whatever the causes, a call refuses for its listed cause only
-pub for-its-cause-only : (cs : List Cause) → ForItsCauseOnly cs
+-- whatever the causes, a call that has the number of the first refuses for its listed cause only
+pub for-its-cause-only : (cs : List Cause) → ForItsCauseOnly (first cs) cs
 for-its-cause-only cs =
     record {
       refused = λ n some e. refused n some cs e;

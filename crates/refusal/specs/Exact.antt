@@ -3,7 +3,7 @@ use Prim.Native.Nat.{ℕ}
 use mathlib.Core.Path.{_≡_}
 use mathlib.Core.Bool.{true, false}
 use mathlib.Core.List.{List, [], _∷_, _++_}
-use Rattle.refusal.specs.Refusal.{Cause, when, first}
+use Rattle.refusal.specs.Refusal.{Cause, when}
 
 -- none of the causes holds
 abbrev pub NoneHolds : List Cause → Type 0
@@ -22,9 +22,9 @@ pub record Decides (n : ℕ) (cs : List Cause) : Type 0 where
   pub listed : cs ≡ before ++ (when n true ∷ behind)
   pub none-before : NoneHolds before
 
--- refused with n, exactly when cause n holds and none before it; accepted, exactly when none holds
-pub record ForItsCauseOnly (cs : List Cause) : Type 0 where
-  pub refused : (n : ℕ) → (n ≡ 0 → ⊥) → first cs ≡ n → Decides n cs
-  pub decided : (n : ℕ) → Decides n cs → first cs ≡ n
-  pub accepted : NoneHolds cs → first cs ≡ 0
-  pub only-then : Numbered cs → first cs ≡ 0 → NoneHolds cs
+-- of the number that a call has: it is n, refused, exactly when cause n holds and none before it; 0, accepted, exactly when none holds
+pub record ForItsCauseOnly (number : ℕ) (cs : List Cause) : Type 0 where
+  pub refused : (n : ℕ) → (n ≡ 0 → ⊥) → number ≡ n → Decides n cs
+  pub decided : (n : ℕ) → Decides n cs → number ≡ n
+  pub accepted : NoneHolds cs → number ≡ 0
+  pub only-then : Numbered cs → number ≡ 0 → NoneHolds cs
