@@ -3,3 +3,4 @@ mod Bytes
 pub mod RoundTrip
 pub mod Told
 pub mod Doors
+pub mod Causes

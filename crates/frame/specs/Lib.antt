@@ -1,3 +1,4 @@
 pub mod Header
 pub mod Frame
 pub mod RoundTrip
+pub mod Causes

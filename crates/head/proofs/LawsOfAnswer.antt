@@ -1,12 +1,11 @@
 -- Letter, mask and header tell verdicts apart: each is read back from them.
 use mathlib.Core.Path.{_≡_, refl, sym, ap, ap₂, _∙_}
-use mathlib.Core.Bool.{Bool, cond}
+use mathlib.Core.Bool.{cond}
 use Prim.Native.Nat.{ℕ}
 use lib.Dec.{eqb}
 use Rattle.refusal.specs.Refusal.{Told}
-use Rattle.frame.specs.declared.Header.{Header}
-use Rattle.frame.specs.Header.{bit, headerValues}
-use Rattle.frame.proofs.RoundTrip.{bit-back}
+use Rattle.frame.specs.Header.{headerValues}
+use Rattle.frame.proofs.Told.{bit-apart, header-apart}
 use Rattle.head.specs.Step.{toldAnswer}
 use Rattle.rules.specs.Verdict.{letterOf, reportValues, sendingOf, sentBy, verdictValues}
 use Rattle.rules.specs.declared.Send.{Send}
@@ -38,17 +37,6 @@ read-back (N c) = refl
 read-back (B c) = refl
 read-back (H c) = refl
 read-back (U c) = refl
-
-bit-apart : (a b : Bool) → bit a ≡ bit b → a ≡ b
-bit-apart a b e = sym (bit-back a) ∙ ap (λ n. eqb n 1) e ∙ bit-back b
-
-header-apart : (g h : Header) → headerValues g ≡ headerValues h → g ≡ h
-header-apart g h e =
-    let l : g .l ≡ h .l = bit-apart (g .l) (h .l) (cc) in
-    let f : g .f ≡ h .f = bit-apart (g .f) (h .f) (cc) in
-    let hc : g .hc ≡ h .hc = cc in
-    let nonce : g .nonce ≡ h .nonce = cc in
-    λ i. record { l = l i; f = f i; hc = hc i; nonce = nonce i }
 
 send-apart : (c d : Send) → c .mask ≡ d .mask → headerValues (c .header) ≡ headerValues (d .header) → c ≡ d
 send-apart c d m e = let h = header-apart (c .header) (d .header) e in λ i. record { mask = m i; header = h i }

@@ -1,6 +1,7 @@
 -- What "for the listed cause only" says of a list of causes.
-use Prim.Native.Nat.{ℕ}
+use Prim.Native.Nat.{ℕ, _<_}
 use mathlib.Core.Path.{_≡_}
+use mathlib.Core.Logic.{_↔_, _⊎_}
 use mathlib.Core.Bool.{true, false}
 use mathlib.Core.List.{List, [], _∷_, _++_}
 use Rattle.refusal.specs.Refusal.{Cause, when}
@@ -28,3 +29,24 @@ pub record ForItsCauseOnly (number : ℕ) (cs : List Cause) : Type 0 where
   pub decided : (n : ℕ) → Decides n cs → number ≡ n
   pub accepted : NoneHolds cs → number ≡ 0
   pub only-then : Numbered cs → number ≡ 0 → NoneHolds cs
+
+-- ---- What the causes are, in words
+
+-- a refusal number, and what it is listed for
+pub record Listed : Type 1 where
+  pub number : ℕ
+  pub So : Type 0
+
+abbrev pub listed : ℕ → Type 0 → Listed
+listed n so = record { number = n; So = so }
+
+-- a number isn't lo..hi
+abbrev pub Outside : ℕ → ℕ → ℕ → Type 0
+Outside lo hi n = (n < lo) ⊎ (hi < n)
+
+-- the causes are those listed, in that order, and each holds exactly where what it is listed for is so
+abbrev pub InWords : List Cause → List Listed → Type 0
+InWords [] [] = Unit {0}
+InWords [] (w ∷ ws) = ⊥
+InWords (c ∷ cs) [] = ⊥
+InWords (c ∷ cs) (w ∷ ws) = (c .number ≡ w .number) × ((c .holds ≡ true) ↔ w .So) × InWords cs ws

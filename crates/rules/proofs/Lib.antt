@@ -1,5 +1,6 @@
 pub mod Bits
 mod Cases
+pub mod Effects
 pub mod Laws
 mod LawsOfMask
 mod LawsOfTable

@@ -2,3 +2,4 @@ pub mod Mask
 pub mod Rules
 pub mod Verdict
 pub mod Words
+pub mod Effects

@@ -1,11 +1,9 @@
 -- What is told tells answers apart: number and values, and of a verdict what a head's step tells of it.
-use mathlib.Core.Path.{_≡_, sym, ap, _∙_}
-use mathlib.Core.Bool.{Bool, false}
+use mathlib.Core.Path.{_≡_, ap}
+use mathlib.Core.Bool.{false}
 use mathlib.Core.List.{_∷_}
-use lib.Dec.{eqb}
 use Rattle.refusal.specs.Refusal.{Told}
-use Rattle.frame.specs.Header.{bit}
-use Rattle.frame.proofs.RoundTrip.{bit-back}
+use Rattle.frame.proofs.Told.{bit-apart}
 use Rattle.rules.specs.Verdict.{verdictValues}
 use Rattle.rules.specs.declared.Report as rules
 use Rattle.rules.specs.declared.Verdict.{Verdict}
@@ -27,9 +25,6 @@ verdict-apart v u e =
     let same : _≡_ {A = head.Answer} (Done (plain v)) (Done (plain u)) = told-apart (Done (plain v)) (Done (plain u)) (ap (λ vs. record { number = 0; values = 0 ∷ 0 ∷ vs }) e) in
     let reports : plain v ≡ plain u = cc in
     ap (λ (r : rules.Report). r .verdict) reports
-
-bit-apart : (a b : Bool) → bit a ≡ bit b → a ≡ b
-bit-apart a b e = sym (bit-back a) ∙ ap (λ n. eqb n 1) e ∙ bit-back b
 
 report-apart : (r q : Report) → reportValues r ≡ reportValues q → r ≡ q
 report-apart r q e =
