@@ -1,3 +1,4 @@
 pub mod Laws
+pub mod Doors
 mod Records
 mod Starts

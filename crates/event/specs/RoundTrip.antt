@@ -3,10 +3,10 @@ use Prim.Native.Nat.{ℕ, _^_, _<_, _≤_}
 use mathlib.Core.Path.{_≡_}
 use mathlib.Core.List.{List, _++_}
 use lib.ListN.{length, drop}
+use Rattle.refusal.specs.OneOutcome.{TellsApart}
 use Rattle.wire.specs.Wire.{AreBytes}
 use Rattle.event.specs.declared.Event.{Event}
 use Rattle.event.specs.declared.Event.the-variants.{Present, Take, Link}
-use Rattle.event.specs.declared.Answer.{Answer}
 use Rattle.event.specs.declared.Answer.the-variants.{Got}
 use Rattle.event.specs.Event.{addressBytes, sizeOf, encodeEvent, readEvent, toldAnswer}
 
@@ -31,4 +31,4 @@ WritesBack = (b : List ℕ) (e : Event) → AreBytes b → readEvent b ≡ Got e
 
 -- two answers that tell the same are the same
 abbrev pub ToldApart : Type 0
-ToldApart = (a b : Answer) → toldAnswer a ≡ toldAnswer b → a ≡ b
+ToldApart = TellsApart toldAnswer

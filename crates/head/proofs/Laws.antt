@@ -6,6 +6,7 @@ use mathlib.Core.List.{List}
 use Prim.Native.Nat.{ℕ, _≤_}
 use native.Mathlib.Omega.{arith}
 use Rattle.refusal.specs.Refusal.{first}
+use Rattle.refusal.specs.OneOutcome.{TellsApart}
 use Rattle.wire.specs.Wire.{AreBytes}
 use Rattle.wire.proofs.Laws.{source-iff}
 use Rattle.table.specs.declared.Found.the-variants.{Absent}
@@ -15,12 +16,11 @@ use Rattle.frame.specs.Frame.{headerIn, sourceOf}
 use Rattle.frame.specs.RoundTrip.{GivesBack}
 use Rattle.head.specs.Switch.{WellFormed, switchCauses}
 use Rattle.rules.specs.Rules.{hopHeader, hostHeader, onHostPort, rule1, rules}
-use Rattle.head.specs.Step.{Steps, hostFrame, outgoing, refusal, refusalBut1, ruled, switchAfter, toldAnswer}
+use Rattle.head.specs.Step.{hostFrame, outgoing, refusal, refusalBut1, ruled, switchAfter, toldAnswer}
 use Rattle.rules.specs.Verdict.{sendingOf}
 use Rattle.rules.proofs.Laws.{filter-formed, nonce-small, sent-fairly, table-formed}
 use Rattle.head.specs.declared.Switch.{Switch}
 use Rattle.rules.specs.declared.Arrival.{Arrival}
-use Rattle.head.specs.declared.Answer.{Answer}
 use Rattle.rules.specs.declared.Send.{Send}
 use Rattle.rules.specs.declared.Sending.the-variants.{Copies}
 use Rattle.head.proofs.Refusals.{passed-1, passed-port, passed-source}
@@ -99,11 +99,5 @@ module _ {sw : Switch} {f : List ℕ} (formed : WellFormed sw f) where
 -- ---- Answers
 
 -- different answers tell different numbers or values
-pub told-apart : (a b : Answer) → toldAnswer a ≡ toldAnswer b → a ≡ b
+pub told-apart : TellsApart toldAnswer
 told-apart = answers.answer-apart
-
--- so a step has one outcome
-pub one-outcome :
-    {n : ℕ} {sw : Switch} {f : List ℕ} {port : ℕ} {frame out : List ℕ} {a₁ a₂ : Answer} {s₁ s₂ : Switch} {f₁ f₂ o₁ o₂ : List ℕ}
-    → Steps n sw f port frame out a₁ s₁ f₁ o₁ → Steps n sw f port frame out a₂ s₂ f₂ o₂ → (a₁ ≡ a₂) × (s₁ ≡ s₂) × (f₁ ≡ f₂) × (o₁ ≡ o₂)
-one-outcome {a₁} {a₂} x y = (told-apart a₁ a₂ (x .told ∙ sym (y .told)), x .switch ∙ sym (y .switch), x .filter ∙ sym (y .filter), x .output ∙ sym (y .output))

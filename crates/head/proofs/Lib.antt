@@ -1,3 +1,5 @@
+pub mod Listed
+pub mod Doors
 pub mod Laws
 mod LawsOfAnswer
 mod LawsOfOutput

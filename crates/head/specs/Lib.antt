@@ -1,3 +1,4 @@
 pub mod Switch
 pub mod Step
 pub mod Rows
+pub mod Causes

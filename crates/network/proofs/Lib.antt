@@ -1,4 +1,5 @@
 pub mod Laws
+pub mod Doors
 pub mod Trip
 mod Lists
 mod Bytes

@@ -6,6 +6,7 @@ use mathlib.Core.List.{List, [], _∷_, _++_}
 use lib.ListN.{length, getD, drop}
 use lib.Dec.{eqb, ltb}
 use Rattle.refusal.specs.Refusal.{Cause, when, first, Told}
+use Rattle.refusal.specs.Exact.{ForItsCauseOnly}
 use Rattle.wire.specs.Wire.{put}
 use Rattle.network.specs.declared.Network.{Network}
 use Rattle.network.specs.declared.Record.{Record}
@@ -64,6 +65,10 @@ readCauses b =
 unfoldable pub readFault : List ℕ → ℕ
 readFault b = first (readCauses b)
 
+-- so it refuses for its listed cause only; the records' own number is for their first faulty one's
+abbrev pub ReadsForItsCauseOnly : Type 0
+ReadsForItsCauseOnly = (b : List ℕ) → ForItsCauseOnly (readFault b) (readCauses b)
+
 -- where the description ends
 unfoldable pub readEnd : List ℕ → ℕ
 readEnd b = scanOf b .end
@@ -88,6 +93,10 @@ writeCauses n room = checked (networkFault n) ∷ when 27 (ltb room (length (ima
 -- the writer's refusal number, 0 for none
 unfoldable pub writeFault : Network → ℕ → ℕ
 writeFault n room = first (writeCauses n room)
+
+-- so it refuses for its listed cause only
+abbrev pub WritesForItsCauseOnly : Type 0
+WritesForItsCauseOnly = (n : Network) (room : ℕ) → ForItsCauseOnly (writeFault n room) (writeCauses n room)
 
 -- the output: the description at its start, and what is behind stays; unchanged on refusal
 unfoldable pub written : Network → List ℕ → List ℕ

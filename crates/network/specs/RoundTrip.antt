@@ -3,9 +3,9 @@ use Prim.Native.Nat.{ℕ, _≤_}
 use mathlib.Core.Path.{_≡_}
 use mathlib.Core.List.{List, _++_}
 use lib.ListN.{length, take}
+use Rattle.refusal.specs.OneOutcome.{TellsApart}
 use Rattle.wire.specs.Wire.{AreBytes}
 use Rattle.network.specs.declared.Network.{Network}
-use Rattle.network.specs.declared.Answer.{Answer}
 use Rattle.network.specs.declared.Start.the-variants.{End}
 use Rattle.network.specs.Network.{cleared}
 use Rattle.network.specs.Format.{startOf}
@@ -47,4 +47,4 @@ ReadsCleared = (b : List ℕ) → readFault b ≡ 0 → cleared (readNetwork b) 
 
 -- two answers that tell the same are the same
 abbrev pub ToldApart : Type 0
-ToldApart = (a b : Answer) → told a ≡ told b → a ≡ b
+ToldApart = TellsApart told
