@@ -180,7 +180,7 @@ module _ (b : Bench) (e : Event) (sized : Sized b) (ok : Accepted b e) where
 -- ---- By the kinds of events
 
 module _ (b : Bench) (sized : Sized b) where
-  presents-truly : (p : Presented) → Accepted b (Present p) → Truly b (Present p)
+  presents-truly : (p : Presented) → Accepted b (Present p) → Truly b (Present p) (eventOf b (Present p))
   unfolding headOf turnIn turnOf presents hostArrival hostOf fromHost HostStepIsTheStep
   presents-truly p ok =
       let n = b .network in
@@ -194,7 +194,7 @@ module _ (b : Bench) (sized : Sized b) where
       truly b (Present p) sized ok (hostArrival s h to) (hostFrame (h .address) to) (inFlight b) refl
       (host-step-is-the-step s (h .port .number) (h .address) to (seat .formed) live role (host-source n fine (p .host) there) (to-accepted n (b .flying) p (ok .free) .1))
 
-  takes-truly : (place : ℕ) → Accepted b (Take place) → Truly b (Take place)
+  takes-truly : (place : ℕ) → Accepted b (Take place) → Truly b (Take place) (eventOf b (Take place))
   unfolding headOf turnIn turnOf takes copyArrival portTo fromLink LinkStepIsTheStep
   takes-truly place ok =
       let n = b .network in
@@ -207,7 +207,7 @@ module _ (b : Bench) (sized : Sized b) where
       truly b (Take place) sized ok (copyArrival n c) (linkFrame (c .source) (c .destination) (c .header)) (without place (inFlight b)) refl
       (link-step-is-the-step s (portTo n c .number) (c .source) (c .destination) (c .header) (seat .formed) (live ∙ v .live) role (v .source) (v .destination-below) (v .hops-some) (v .hops-few) (v .nonce))
 
-  pub steps-truly : (e : Event) → Accepted b e → Truly b e
+  pub steps-truly : (e : Event) → Accepted b e → Truly b e (eventOf b e)
   steps-truly (Present p) ok = presents-truly p ok
   steps-truly (Take place) ok = takes-truly place ok
   steps-truly (Link l) ok = tt

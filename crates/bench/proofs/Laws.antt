@@ -1,11 +1,9 @@
 -- What callers cite of a bench: the theorems of specs/Kept, and what an event leaves.
-use Prim.Native.Nat.{ℕ, zero, suc, _+_, _<_}
-use mathlib.Core.Path.{_≡_, refl, sym, ap, _∙_}
+use Prim.Native.Nat.{ℕ, _+_, _<_}
+use mathlib.Core.Path.{_≡_, refl, _∙_}
 use mathlib.Core.Bool.{true}
-use mathlib.Core.List.{[]}
 use native.Mathlib.Omega.{arith}
 use lib.ListN.{getD, length, length-replicate, List·getD-append}
-use Rattle.refusal.specs.Refusal.{Told, answered}
 use Rattle.network.specs.declared.Network.{Network}
 use Rattle.network.specs.Network.{mostLinks, mostSwitches}
 use Rattle.network.specs.Checks.{networkFault}
@@ -22,9 +20,7 @@ use Rattle.turn.specs.Fits.{SeatFits}
 use Rattle.turn.specs.Turn.{Answers, Small, come, gone, headOf}
 use Rattle.turn.proofs.Laws.{turn-accepts, turn-count, turn-small}
 use Rattle.bench.specs.declared.Bench.{Bench}
-use Rattle.bench.specs.declared.Made.{Made}
-use Rattle.bench.specs.declared.Made.the-variants.{Refused, Ready}
-use Rattle.bench.specs.Bench.{Freshens, allUp, freshBench, freshHeads, inFlight, noSeat, seatAt, toldMade}
+use Rattle.bench.specs.Bench.{allUp, freshBench, freshHeads, inFlight, noSeat, seatAt}
 use Rattle.bench.specs.Shape.{Accepted, Sized, seatFits}
 use Rattle.bench.specs.Events.{eventOf, turnIn}
 use Rattle.bench.specs.Kept.{AlreadySo, EachIsTheStep, FreshInShape, HeadsFollow, KeepsShape, NothingElseChanges, TestedBothWays}
@@ -78,19 +74,6 @@ fresh-sized n fine = record {
   seats = padded-length noSeat mostSwitches (freshHeads n allUp (n .nswitches)) (omega (arith, heads-length n allUp (n .nswitches), few-switches n fine));
   copies = length-replicate most noCopy;
 }
-
--- a network gives one answer and one bench
-pub one-fresh : {n : Network} {m₁ m₂ : Made} {b₁ b₂ : Bench} → Freshens n m₁ b₁ → Freshens n m₂ b₂ → (m₁ ≡ m₂) × (b₁ ≡ b₂)
-one-fresh {n} {m₁} {m₂} v w = (by-fault (networkFault n) m₁ m₂ (v .made) (w .made) (v .ready) (w .ready), v .bench ∙ sym (w .bench))
-  where
-    number : {s t : Told} → s ≡ t → s .number ≡ t .number
-    number e = ap (λ (t : Told). t .number) e
-
-    by-fault : (f : ℕ) (m₁ m₂ : Made) → toldMade m₁ ≡ answered f [] → toldMade m₂ ≡ answered f [] → (f ≡ 0 → m₁ ≡ Ready) → (f ≡ 0 → m₂ ≡ Ready) → m₁ ≡ m₂
-    by-fault zero m₁ m₂ a b x y = x refl ∙ sym (y refl)
-    by-fault (suc f) (Refused i) (Refused j) a b x y = ap (λ k. Refused k) (number a ∙ sym (number b))
-    by-fault (suc f) Ready m₂ a b x y = absurd (omega (arith, number a))
-    by-fault (suc f) (Refused i) Ready a b x y = absurd (omega (arith, number b))
 
 -- ---- An event
 

@@ -1,4 +1,5 @@
 pub mod Laws
+pub mod Doors
 mod Described
 mod Heads
 mod Lists

@@ -55,19 +55,19 @@ pub record StepsTruly (b : Bench) (after : Happened) (k : ℕ) (a : Arrival) (fr
   pub verdict : ReportsIt k a (stepOf (seatAt b k) a) (after .answer)
 
 -- for a host the frame of 60 bytes, for a copy that of 66 with its header, and those addresses
-abbrev pub Truly : Bench → Event → Type 0
-Truly b (Present e) =
-    StepsTruly b (eventOf b (Present e)) (hostOf (b .network) (e .host) .port .switch)
+abbrev pub Truly : Bench → Event → Happened → Type 0
+Truly b (Present e) after =
+    StepsTruly b after (hostOf (b .network) (e .host) .port .switch)
     (hostArrival (seatAt b (hostOf (b .network) (e .host) .port .switch)) (hostOf (b .network) (e .host)) (addressOf (e .to)))
     (hostFrame (hostOf (b .network) (e .host) .address) (addressOf (e .to)))
-Truly b (Take place) =
-    StepsTruly b (eventOf b (Take place)) (portTo (b .network) (copyAt (inFlight b) place) .switch) (copyArrival (b .network) (copyAt (inFlight b) place))
+Truly b (Take place) after =
+    StepsTruly b after (portTo (b .network) (copyAt (inFlight b) place) .switch) (copyArrival (b .network) (copyAt (inFlight b) place))
     (linkFrame (copyAt (inFlight b) place .source) (copyAt (inFlight b) place .destination) (copyAt (inFlight b) place .header))
-Truly b (Link e) = Unit {0}
+Truly b (Link e) after = Unit {0}
 
 -- at every accepted event of a head
 abbrev pub EachIsTheStep : Type 0
-EachIsTheStep = (b : Bench) (e : Event) → Sized b → Accepted b e → Truly b e
+EachIsTheStep = (b : Bench) (e : Event) → Sized b → Accepted b e → Truly b e (eventOf b e)
 
 -- ---- Nothing else changes
 

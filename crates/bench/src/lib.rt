@@ -15,7 +15,7 @@ ghost use Rattle.bench.specs.Events as spec;
 ghost use Rattle.bench.specs.Events.{eventOf};
 ghost use Rattle.bench.specs.Shape.{Accepted, InShape, inShape};
 
-pub mod shape;
+mod shape;
 
 use cabling::plugs_of;
 use cabling::setup_of;

@@ -1,6 +1,6 @@
 -- What a caller may know of the counters and of the public event, and what holds in every run.
 use Prim.Native.Nat.{ℕ, _+_, _≤_, _<_}
-use mathlib.Core.Path.{_≡_, sym, _∙_}
+use mathlib.Core.Path.{_≡_, _∙_}
 use mathlib.Core.Bool.{true}
 use mathlib.Core.Logic.{_↔_}
 use mathlib.Core.List.{List, [], _∷_}
@@ -9,15 +9,12 @@ use lib.ListN.{length}
 use Rattle.network.specs.declared.Network.{Network}
 use Rattle.network.specs.Checks.{networkFault}
 use Rattle.event.specs.declared.Event.{Event}
-use Rattle.turn.specs.declared.Answer.{Answer}
 use Rattle.turn.specs.Turn.{ownRefusal}
-use Rattle.turn.proofs.Laws.{told-apart}
-use Rattle.bench.specs.declared.Bench.{Bench}
 use Rattle.bench.specs.Bench.{freshBench}
 use Rattle.bench.specs.Events.{eventOf}
 use Rattle.bench.proofs.Laws.{each-is-the-step, fresh-in-shape, fresh-sized}
 use Rattle.counters.specs.Counters.{CountersFit, countersFit, plus}
-use Rattle.counters.specs.Event.{Happens, eventRefusal, mostEvents}
+use Rattle.counters.specs.Event.{eventRefusal, happensOf, mostEvents}
 use Rattle.counters.specs.History.{CountersByHistory, EveryStepIsTrue, InRun, PlacedIsAccountedFor, Reachable, State, StaysInShape, after, freshState, runOf}
 use Rattle.counters.specs.declared.Counters.{Counters}
 use Rattle.counters.proofs.Adding.{none-plus}
@@ -31,10 +28,6 @@ use Rattle.counters.proofs.Keeping.{accepted, keeps, never-28, own-only
 -- the test finds counters in shape exactly where they are
 pub counters-tested : (flying : ℕ) (c : Counters) → (countersFit flying c ≡ true) ↔ CountersFit flying c
 counters-tested flying c = (found-fit flying c, fits flying c)
-
--- no two outcomes keep what the public event promises
-pub one-outcome : {b b₁ b₂ : Bench} {c c₁ c₂ : Counters} {e : Event} {a₁ a₂ : Answer} → Happens b c e a₁ b₁ c₁ → Happens b c e a₂ b₂ c₂ → (a₁ ≡ a₂) × (b₁ ≡ b₂) × (c₁ ≡ c₂)
-one-outcome {a₁ = a₁} {a₂ = a₂} h k = (told-apart a₁ a₂ (h .answer ∙ sym (k .answer)), h .bench ∙ sym (k .bench), h .counters ∙ sym (k .counters))
 
 -- ---- What every run keeps
 
@@ -93,4 +86,5 @@ stays-in-shape s reached = let k = reachable-in-run reached in (k .shape, k .fit
 
 -- at every accepted event the head steps by demand 2's public step
 pub every-step-is-true : EveryStepIsTrue
-every-step-is-true s reached e z = let k = reachable-in-run reached in each-is-the-step (s .bench) e (k .sized) (accepted k e z)
+unfolding happensOf
+every-step-is-true s reached e z = let k = reachable-in-run reached in rw z (each-is-the-step (s .bench) e (k .sized) (accepted k e z))

@@ -104,4 +104,4 @@ StaysInShape = (s : State) → Reachable s → InShape (s .bench) × CountersFit
 
 -- at every accepted event the head steps by demand 2's public step
 abbrev pub EveryStepIsTrue : Type 0
-EveryStepIsTrue = (s : State) → Reachable s → (e : Event) → eventRefusal (s .bench) (s .counters) e ≡ 0 → Truly (s .bench) e
+EveryStepIsTrue = (s : State) → Reachable s → (e : Event) → eventRefusal (s .bench) (s .counters) e ≡ 0 → Truly (s .bench) e (happensAt s e .happened)

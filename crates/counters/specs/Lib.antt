@@ -1,3 +1,4 @@
 pub mod Counters
 pub mod Event
 pub mod History
+pub mod Causes

@@ -185,7 +185,7 @@ fn plainly(verdict: Verdict) -> Outcome
 }
 
 // Rule 2, where the hop count is above the limit.
-pub fn rule2(addresses: &mut [u64], ports: &mut [u8], hops: &mut [u8], a: Arrival) -> Outcome
+fn rule2(addresses: &mut [u64], ports: &mut [u8], hops: &mut [u8], a: Arrival) -> Outcome
     requires { ⌜ Sized (tableOf (now addresses) (now ports) (now hops)) ⌝ }
     ensures after { λ r. ⌜ ((f : List ℕ) → spec.left (tableOf (now (addresses .exit)) (now (ports .exit)) (now (hops .exit))) f r ≡ spec.rule2 (tableOf (now (addresses .entry)) (now (ports .entry)) (now (hops .entry))) f a) ⌝ }
     ensures sized { λ _. ⌜ Sized (tableOf (now (addresses .exit)) (now (ports .exit)) (now (hops .exit))) ⌝ }
@@ -199,7 +199,7 @@ pub fn rule2(addresses: &mut [u64], ports: &mut [u8], hops: &mut [u8], a: Arriva
 }
 
 // Rule 3: F set, the filter is asked and the triple recorded; F clear, neither.
-pub fn rule3(s: Setup, filter: &mut [u8], a: Arrival) -> Recorded
+fn rule3(s: Setup, filter: &mut [u8], a: Arrival) -> Recorded
     ensures duplicate { λ r. ⌜ r .duplicate ≡ spec.isDuplicate s (now (filter .entry)) a ⌝ }
     ensures overwrote { λ r. ⌜ r .overwrote ≡ spec.overwrote3 s (now (filter .entry)) a ⌝ }
     ensures filter { λ _. ⌜ now (filter .exit) ≡ spec.rule3 s (now (filter .entry)) a ⌝ }
@@ -247,7 +247,7 @@ fn learns(a: Arrival, duplicate: bool, found: Found) -> bool
     a.header.l
 }
 
-pub fn rule5(
+fn rule5(
     addresses: &mut [u64],
     ports: &mut [u8],
     hops: &mut [u8],
@@ -265,7 +265,7 @@ pub fn rule5(
 }
 
 // Says whether the table was full.
-pub fn rule6(
+fn rule6(
     addresses: &mut [u64],
     ports: &mut [u8],
     hops: &mut [u8],
@@ -285,7 +285,7 @@ pub fn rule6(
 }
 
 // Rules 4 to 6: the source's entry is read before rule 5 may erase it.
-pub fn learning(
+fn learning(
     addresses: &mut [u64],
     ports: &mut [u8],
     hops: &mut [u8],
@@ -302,7 +302,7 @@ pub fn learning(
 }
 
 // The entry of an address whose port is up.
-pub fn standing(s: Setup, addresses: &[u64], ports: &[u8], hops: &[u8], address: u64) -> Found
+fn standing(s: Setup, addresses: &[u64], ports: &[u8], hops: &[u8], address: u64) -> Found
     requires { ⌜ Sized (tableOf (now addresses) (now ports) (now hops)) ⌝ }
     ensures entry { λ r. ⌜ r ≡ spec.standing s (tableOf (now (addresses .entry)) (now (ports .entry)) (now (hops .entry))) address ⌝ }
     ensures port { λ r. ⌜ spec.PortWithin r ⌝ }
@@ -318,7 +318,7 @@ pub fn standing(s: Setup, addresses: &[u64], ports: &[u8], hops: &[u8], address:
 }
 
 // Rule 9, where no entry for the destination stands.
-pub fn rule9(s: Setup, filter: &mut [u8], a: Arrival) -> Outcome
+fn rule9(s: Setup, filter: &mut [u8], a: Arrival) -> Outcome
     requires { ⌜ a .port < 16 ⌝ }
     ensures { λ r. ⌜ ((t : Table) → spec.left t (now (filter .exit)) r ≡ spec.rule9 s t (now (filter .entry)) a) ⌝ }
 {
@@ -351,7 +351,7 @@ pub fn rule9(s: Setup, filter: &mut [u8], a: Arrival) -> Outcome
 }
 
 // Rule 10, where the destination's entry names the arrival port.
-pub fn rule10(addresses: &mut [u64], ports: &mut [u8], hops: &mut [u8], a: Arrival) -> Outcome
+fn rule10(addresses: &mut [u64], ports: &mut [u8], hops: &mut [u8], a: Arrival) -> Outcome
     requires { ⌜ Sized (tableOf (now addresses) (now ports) (now hops)) × (a .port < 16) ⌝ }
     ensures after { λ r. ⌜ ((f : List ℕ) → spec.left (tableOf (now (addresses .exit)) (now (ports .exit)) (now (hops .exit))) f r ≡ spec.rule10 (tableOf (now (addresses .entry)) (now (ports .entry)) (now (hops .entry))) f a) ⌝ }
     ensures sized { λ _. ⌜ Sized (tableOf (now (addresses .exit)) (now (ports .exit)) (now (hops .exit))) ⌝ }
@@ -368,7 +368,7 @@ pub fn rule10(addresses: &mut [u64], ports: &mut [u8], hops: &mut [u8], a: Arriv
 }
 
 // Rules 9 to 11, by the destination's entry.
-pub fn onward(
+fn onward(
     s: Setup,
     addresses: &mut [u64],
     ports: &mut [u8],
@@ -394,7 +394,7 @@ pub fn onward(
 }
 
 // Rules 7 to 11.
-pub fn forwarding(
+fn forwarding(
     s: Setup,
     addresses: &mut [u64],
     ports: &mut [u8],

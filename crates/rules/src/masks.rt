@@ -20,7 +20,7 @@ pub fn only_port(port: u8) -> u16
     1u16 << (port as u16)
 }
 
-pub fn all_but(port: u8, mask: u16) -> u16
+pub(crate) fn all_but(port: u8, mask: u16) -> u16
     requires { ⌜ port < 16 ⌝ }
     ensures { λ r. ⌜ r ≡ allBut port mask ⌝ }
 {

@@ -89,7 +89,3 @@ toldPrinted (Wrote n) = n ∷ []
 pub record Prints (input out : List ℕ) (p : Printed) (out′ : List ℕ) : Type 0 where
   pub answer : toldPrinted p ≡ cond (ltb (length out) mostPrinted) [] (length (transcript input) ∷ [])
   pub output : out′ ≡ cond (ltb (length out) mostPrinted) out (put out 0 (transcript input))
-
--- so no two outcomes keep the promise
-abbrev pub OneOutcome : Type 0
-OneOutcome = (input out : List ℕ) (p q : Printed) (a b : List ℕ) → Prints input out p a → Prints input out q b → (p ≡ q) × (a ≡ b)
