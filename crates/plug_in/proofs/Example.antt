@@ -9,7 +9,6 @@ use lib.ListN.{take}
 use Rattle.wire.specs.Address.{Source}
 use Rattle.wire.specs.Wire.{bytesOf}
 use Rattle.network.specs.declared.Network.{Network}
-use Rattle.network.specs.declared.Record.the-variants.{Switch as OfSwitch, Host as OfHost, Link as OfLink}
 use Rattle.network.specs.Checks.{networkFault}
 use Rattle.network.specs.Network.{limitOf}
 use Rattle.table.specs.Table.{Holds}
@@ -48,31 +47,17 @@ use Rattle.plug_in.specs.Words.{Cabled, HasRecord, JoinedTo, LimitsReach
 use Rattle.plug_in.proofs.Happening.{accepted-answer}
 use Rattle.plug_in.proofs.Laws.{first-plug-in}
 use Rattle.plug_in.proofs.Stand.{host-source}
+use Rattle.plug_in.proofs.Stands.{away, ring}
 use Rattle.plug_in.proofs.Trying.{allFree, allKeep, allProvided, ends, free, free-goes, isFree, leaves, loses, lostNone, provided, run-ends}
 
 -- ---- The ring and its run
-
--- three switches of three ports, with limit 3; host i on port 0 of switch i, and a link between any two switches
-unfoldable pub ring : Network
-ring =
-    network.built network.emptyNetwork
-    (OfSwitch (record { ports = 3; limit = 3; salt = 1 })
-    ∷ OfSwitch (record { ports = 3; limit = 3; salt = 2 })
-    ∷ OfSwitch (record { ports = 3; limit = 3; salt = 3 })
-    ∷ OfHost (record { port = record { switch = 0; number = 0 }; address = 2 })
-    ∷ OfHost (record { port = record { switch = 1; number = 0 }; address = 4 })
-    ∷ OfHost (record { port = record { switch = 2; number = 0 }; address = 6 })
-    ∷ OfLink (record { first = record { switch = 0; number = 1 }; second = record { switch = 1; number = 1 } })
-    ∷ OfLink (record { first = record { switch = 0; number = 2 }; second = record { switch = 2; number = 1 } })
-    ∷ OfLink (record { first = record { switch = 1; number = 2 }; second = record { switch = 2; number = 2 } })
-    ∷ [])
 
 abbrev pub fresh : State
 fresh = freshState ring
 
 -- host 0 sends to an address that is no host's
 abbrev pub first : Event
-first = sends 0 (record { b0 = 0; b1 = 0; b2 = 0; b3 = 0; b4 = 0; b5 = 9 })
+first = sends 0 away
 
 -- and its four copies are taken, always the first of those in flight
 abbrev pub takings : List Event

@@ -18,5 +18,6 @@ mod Run
 mod Following
 mod Claims
 mod Trying
+mod Stands
 mod Example
 mod Without

@@ -10,7 +10,6 @@ use lib.Dec.{eqb}
 use lib.ListN.{replicate}
 use borrow.Author.Tests.{eq-eqb}
 use Rattle.network.specs.declared.Network.{Network}
-use Rattle.network.specs.declared.Record.the-variants.{Switch as OfSwitch, Host as OfHost, Link as OfLink}
 use Rattle.network.specs.Checks.{networkFault}
 use Rattle.table.specs.declared.Entry.{Entry}
 use Rattle.table.specs.declared.Found.{Found}
@@ -44,125 +43,10 @@ use Rattle.plug_in.specs.Words as words
 use Rattle.plug_in.specs.Demand as demand
 use Rattle.plug_in.specs.Demand.{NoneFlies, sends}
 use Rattle.plug_in.specs.Words.{Cabled, HasRecord, JoinedTo, receivesBy, sendsBy, times}
+use Rattle.plug_in.proofs.Stands.{away, low, mesh, pair, ring, spur, star, trio}
 use Rattle.plug_in.proofs.Trying.{allFree, ends, history-tells, leaves, run-ends, tells}
 
--- ---- The stands; host 0, which sends, has address 2 and is on switch 0
-
--- two switches, each with a host; the limits are 2
-unfoldable pub pair : Network
-pair =
-    network.built network.emptyNetwork
-    (OfSwitch (record { ports = 2; limit = 2; salt = 1 })
-    ∷ OfSwitch (record { ports = 2; limit = 2; salt = 2 })
-    ∷ OfHost (record { port = record { switch = 0; number = 0 }; address = 2 })
-    ∷ OfHost (record { port = record { switch = 1; number = 0 }; address = 4 })
-    ∷ OfLink (record { first = record { switch = 0; number = 1 }; second = record { switch = 1; number = 1 } })
-    ∷ [])
-
--- the same, but the second switch has limit 1
-unfoldable pub low : Network
-low =
-    network.built network.emptyNetwork
-    (OfSwitch (record { ports = 2; limit = 2; salt = 1 })
-    ∷ OfSwitch (record { ports = 2; limit = 1; salt = 2 })
-    ∷ OfHost (record { port = record { switch = 0; number = 0 }; address = 2 })
-    ∷ OfHost (record { port = record { switch = 1; number = 0 }; address = 4 })
-    ∷ OfLink (record { first = record { switch = 0; number = 1 }; second = record { switch = 1; number = 1 } })
-    ∷ [])
-
--- the same, with two hosts on the second switch
-unfoldable pub trio : Network
-trio =
-    network.built network.emptyNetwork
-    (OfSwitch (record { ports = 2; limit = 2; salt = 1 })
-    ∷ OfSwitch (record { ports = 3; limit = 2; salt = 2 })
-    ∷ OfHost (record { port = record { switch = 0; number = 0 }; address = 2 })
-    ∷ OfHost (record { port = record { switch = 1; number = 0 }; address = 4 })
-    ∷ OfHost (record { port = record { switch = 1; number = 1 }; address = 6 })
-    ∷ OfLink (record { first = record { switch = 0; number = 1 }; second = record { switch = 1; number = 2 } })
-    ∷ [])
-
--- a ring of three switches, each with a host; the limits are 3
-unfoldable pub ring : Network
-ring =
-    network.built network.emptyNetwork
-    (OfSwitch (record { ports = 3; limit = 3; salt = 1 })
-    ∷ OfSwitch (record { ports = 3; limit = 3; salt = 2 })
-    ∷ OfSwitch (record { ports = 3; limit = 3; salt = 3 })
-    ∷ OfHost (record { port = record { switch = 0; number = 0 }; address = 2 })
-    ∷ OfHost (record { port = record { switch = 1; number = 0 }; address = 4 })
-    ∷ OfHost (record { port = record { switch = 2; number = 0 }; address = 6 })
-    ∷ OfLink (record { first = record { switch = 0; number = 1 }; second = record { switch = 1; number = 1 } })
-    ∷ OfLink (record { first = record { switch = 0; number = 2 }; second = record { switch = 2; number = 1 } })
-    ∷ OfLink (record { first = record { switch = 1; number = 2 }; second = record { switch = 2; number = 2 } })
-    ∷ [])
-
--- switch 1 has a host and seven links, to each other switch; switch 0 has a host; the limits are 8
-unfoldable pub star : Network
-star =
-    network.built network.emptyNetwork
-    (OfSwitch (record { ports = 2; limit = 8; salt = 1 })
-    ∷ OfSwitch (record { ports = 8; limit = 8; salt = 2 })
-    ∷ OfSwitch (record { ports = 1; limit = 8; salt = 3 })
-    ∷ OfSwitch (record { ports = 1; limit = 8; salt = 4 })
-    ∷ OfSwitch (record { ports = 1; limit = 8; salt = 5 })
-    ∷ OfSwitch (record { ports = 1; limit = 8; salt = 6 })
-    ∷ OfSwitch (record { ports = 1; limit = 8; salt = 7 })
-    ∷ OfSwitch (record { ports = 1; limit = 8; salt = 8 })
-    ∷ OfHost (record { port = record { switch = 0; number = 0 }; address = 2 })
-    ∷ OfHost (record { port = record { switch = 1; number = 0 }; address = 4 })
-    ∷ OfLink (record { first = record { switch = 0; number = 1 }; second = record { switch = 1; number = 1 } })
-    ∷ OfLink (record { first = record { switch = 1; number = 2 }; second = record { switch = 2; number = 0 } })
-    ∷ OfLink (record { first = record { switch = 1; number = 3 }; second = record { switch = 3; number = 0 } })
-    ∷ OfLink (record { first = record { switch = 1; number = 4 }; second = record { switch = 4; number = 0 } })
-    ∷ OfLink (record { first = record { switch = 1; number = 5 }; second = record { switch = 5; number = 0 } })
-    ∷ OfLink (record { first = record { switch = 1; number = 6 }; second = record { switch = 6; number = 0 } })
-    ∷ OfLink (record { first = record { switch = 1; number = 7 }; second = record { switch = 7; number = 0 } })
-    ∷ [])
-
--- a ring of four switches, and a fifth on switch 1 alone; no two are more than three links apart, and the limits are 4
-unfoldable pub spur : Network
-spur =
-    network.built network.emptyNetwork
-    (OfSwitch (record { ports = 3; limit = 4; salt = 1 })
-    ∷ OfSwitch (record { ports = 4; limit = 4; salt = 2 })
-    ∷ OfSwitch (record { ports = 2; limit = 4; salt = 3 })
-    ∷ OfSwitch (record { ports = 2; limit = 4; salt = 4 })
-    ∷ OfSwitch (record { ports = 2; limit = 4; salt = 5 })
-    ∷ OfHost (record { port = record { switch = 0; number = 0 }; address = 2 })
-    ∷ OfHost (record { port = record { switch = 1; number = 0 }; address = 4 })
-    ∷ OfHost (record { port = record { switch = 4; number = 1 }; address = 6 })
-    ∷ OfLink (record { first = record { switch = 0; number = 1 }; second = record { switch = 1; number = 1 } })
-    ∷ OfLink (record { first = record { switch = 0; number = 2 }; second = record { switch = 3; number = 1 } })
-    ∷ OfLink (record { first = record { switch = 1; number = 2 }; second = record { switch = 2; number = 0 } })
-    ∷ OfLink (record { first = record { switch = 1; number = 3 }; second = record { switch = 4; number = 0 } })
-    ∷ OfLink (record { first = record { switch = 2; number = 1 }; second = record { switch = 3; number = 0 } })
-    ∷ [])
-
--- the ring of four, where switch 4 is reached from switch 1 and, over switch 5, from switch 3; the limits are 6
-unfoldable pub mesh : Network
-mesh =
-    network.built network.emptyNetwork
-    (OfSwitch (record { ports = 3; limit = 6; salt = 1 })
-    ∷ OfSwitch (record { ports = 3; limit = 6; salt = 2 })
-    ∷ OfSwitch (record { ports = 2; limit = 6; salt = 3 })
-    ∷ OfSwitch (record { ports = 3; limit = 6; salt = 4 })
-    ∷ OfSwitch (record { ports = 2; limit = 6; salt = 5 })
-    ∷ OfSwitch (record { ports = 2; limit = 6; salt = 6 })
-    ∷ OfHost (record { port = record { switch = 0; number = 0 }; address = 2 })
-    ∷ OfLink (record { first = record { switch = 0; number = 1 }; second = record { switch = 1; number = 0 } })
-    ∷ OfLink (record { first = record { switch = 0; number = 2 }; second = record { switch = 3; number = 0 } })
-    ∷ OfLink (record { first = record { switch = 1; number = 1 }; second = record { switch = 2; number = 0 } })
-    ∷ OfLink (record { first = record { switch = 1; number = 2 }; second = record { switch = 4; number = 0 } })
-    ∷ OfLink (record { first = record { switch = 2; number = 1 }; second = record { switch = 3; number = 1 } })
-    ∷ OfLink (record { first = record { switch = 3; number = 2 }; second = record { switch = 5; number = 0 } })
-    ∷ OfLink (record { first = record { switch = 4; number = 1 }; second = record { switch = 5; number = 1 } })
-    ∷ [])
-
 -- ---- The runs; host 0 sends to an address that is no host's
-
-abbrev pub away : Address
-away = record { b0 = 0; b1 = 0; b2 = 0; b3 = 0; b4 = 0; b5 = 9 }
 
 -- the limit: at switch 1 the frame has two hops, above its limit
 abbrev pub aged : List Event
