@@ -11,7 +11,7 @@ ghost use Rattle.frame.specs.Frame.{headerIn};
 ghost use Rattle.table.specs.Table.{Sized, learnedOf, tableOf};
 ghost use Rattle.table.specs.declared.Table.{Table};
 ghost use Rattle.rules.specs.Rules as spec;
-ghost use Rattle.rules.specs.Verdict.{sendingOf};
+ghost use Rattle.rules.specs.Verdict.{letterOf, sendingOf};
 use filter::Recorded;
 use frame::Frame;
 use frame::Header;
@@ -89,6 +89,23 @@ pub fn sending_of(v: Verdict) -> Sending
         Verdict::B(s) => Sending::Copies(s),
         Verdict::H(s) => Sending::Copies(s),
         Verdict::U(s) => Sending::Copies(s),
+    }
+}
+
+// Its letter, as the byte that is printed.
+pub fn letter_of(v: Verdict) -> u8
+    ensures { λ r. ⌜ r ≡ letterOf v ⌝ }
+{
+    match v {
+        Verdict::X => b'X',
+        Verdict::D => b'D',
+        Verdict::G => b'G',
+        Verdict::E => b'E',
+        Verdict::F(_) => b'F',
+        Verdict::N(_) => b'N',
+        Verdict::B(_) => b'B',
+        Verdict::H(_) => b'H',
+        Verdict::U(_) => b'U',
     }
 }
 

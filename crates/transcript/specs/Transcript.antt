@@ -12,29 +12,15 @@ use Rattle.event.specs.declared.Event.{Event}
 use Rattle.event.specs.declared.Answer.{Answer as Read}
 use Rattle.event.specs.declared.Answer.the-variants.{Refused as Bad, Got}
 use Rattle.event.specs.Event.{letterOf, readEvent, sizeOf}
-use Rattle.rules.specs.Verdict as verdict
 use Rattle.lines.specs.declared.Line.{Line}
 use Rattle.lines.specs.Lines.{lineOf, refusedLine, stopLine}
 use Rattle.turn.specs.declared.Answer.{Answer}
-use Rattle.turn.specs.declared.Answer.the-variants.{Refused, Stepped, Linked}
-use Rattle.turn.specs.Turn.{refusalOf}
+use Rattle.turn.specs.Turn.{receivedBy, refusalOf, verdictOf}
 use Rattle.counters.specs.History.{State, after, freshState, happensAt}
 use Rattle.transcript.specs.declared.Printed.{Printed}
 use Rattle.transcript.specs.declared.Printed.the-variants.{TooShort, Wrote}
 
 -- ---- A line for each event, refused ones also
-
--- the verdict's letter: R if refused, K for a link
-abbrev pub verdictOf : Answer → ℕ
-verdictOf (Refused n) = 0x52
-verdictOf (Stepped r) = verdict.letterOf (r .verdict)
-verdictOf (Linked cut) = 0x4B
-
--- the hosts that received
-abbrev pub receivedBy : Answer → ℕ
-receivedBy (Refused n) = 0
-receivedBy (Stepped r) = r .received
-receivedBy (Linked cut) = 0
 
 -- number from 1, letter, refusal number or 0, verdict, hosts that received, copies in flight
 unfoldable pub lineFor : ℕ → Event → Answer → ℕ → Line

@@ -1,11 +1,10 @@
 // The run: one loop over the events of an input.
 ghost use mathlib.Core.Path.{_≡_};
 ghost use Prim.Native.Nat.{_≤_};
-ghost use Rattle.rules.specs.Verdict.{letterOf};
 ghost use Rattle.flight.specs.Flight.{copiesIn, most};
-ghost use Rattle.turn.specs.Turn.{Kept, Turns, refusalOf};
+ghost use Rattle.turn.specs.Turn.{Kept, Turns};
 ghost use Rattle.bench.specs.Bench.{noSeat};
-ghost use Rattle.transcript.specs.Transcript.{lineFor, receivedBy, verdictOf};
+ghost use Rattle.transcript.specs.Transcript.{lineFor};
 ghost use Rattle.transcript.specs.Running.{CanAct, CanRun, Ran, actOf, concerned};
 use cabling::plugs_of;
 use cabling::setup_of;
@@ -19,66 +18,15 @@ use lines::put_line;
 use lines::put_stop;
 use network::Network;
 use rules::Setup;
-use rules::Verdict;
 use seat::Seat;
 use turn::Answer;
 use turn::Turned;
 use turn::head_of;
 use turn::own_refusal;
+use turn::received_by;
+use turn::refusal_of;
 use turn::turn;
-
-// A verdict's letter.
-fn letter(v: Verdict) -> u8
-    ensures { λ r. ⌜ r ≡ letterOf v ⌝ }
-{
-    match v {
-        Verdict::X => 0x58,
-        Verdict::D => 0x44,
-        Verdict::G => 0x47,
-        Verdict::E => 0x45,
-        Verdict::F(_) => 0x46,
-        Verdict::N(_) => 0x4E,
-        Verdict::B(_) => 0x42,
-        Verdict::H(_) => 0x48,
-        Verdict::U(_) => 0x55,
-    }
-}
-
-// The letter of an answer's verdict: R if refused, K for a link.
-fn verdict_of(a: Answer) -> u8
-    ensures { λ r. ⌜ r ≡ verdictOf a ⌝ }
-{
-    match a {
-        Answer::Refused(_) => 0x52,
-        Answer::Stepped(r) => {
-            let verdict = r.verdict;
-            letter(verdict)
-        }
-        Answer::Linked(_) => 0x4B,
-    }
-}
-
-// The hosts that received, bit i for host i.
-fn received_by(a: Answer) -> u32
-    ensures { λ r. ⌜ r ≡ receivedBy a ⌝ }
-{
-    match a {
-        Answer::Refused(_) => 0,
-        Answer::Stepped(r) => r.received,
-        Answer::Linked(_) => 0,
-    }
-}
-
-// The refusal number, or 0.
-fn refusal_of(a: Answer) -> u8
-    ensures { λ r. ⌜ r ≡ refusalOf a ⌝ }
-{
-    match a {
-        Answer::Refused(n) => n,
-        Answer::Stepped(_) => 0,
-        Answer::Linked(_) => 0,
-    }
-}
+use turn::verdict_of;
 
 // An event's line, with the copies in flight behind it.
 fn line_for(number: u32, e: Event, a: Answer, flying: usize) -> Line

@@ -1,5 +1,5 @@
 -- Document 01, "The bench": the three kinds of events, their own refusals, and the turn that a head takes at an accepted one.
--- `ownRefusal`, `headOf`, `turnOf` and `told` are the interface; the others serve them, or are the words of laws and of the code.
+-- `ownRefusal`, `headOf`, `turnOf`, `told` and the parts of an answer that a line prints (`refusalOf`, `verdictOf`, `receivedBy`) are the interface; the others serve them, or are the words of laws and of the code.
 use Prim.Native.Nat.{ℕ, _+_, _-_, _^_, _<_, _≤_}
 use mathlib.Core.Path.{_≡_}
 use mathlib.Core.Bool.{Bool, true, false, _||_}
@@ -15,7 +15,7 @@ use Rattle.network.specs.declared.Port.{Port}
 use Rattle.network.specs.declared.Host.{Host}
 use Rattle.network.specs.Network.{mostLinks}
 use Rattle.rules.specs.declared.Arrival.{Arrival}
-use Rattle.rules.specs.Verdict.{sendingOf, verdictValues}
+use Rattle.rules.specs.Verdict.{letterOf, sendingOf, verdictValues}
 use Rattle.cabling.specs.declared.End.{End}
 use Rattle.cabling.specs.declared.Plug.{Plug}
 use Rattle.cabling.specs.Cabling.{firstOf, hostAt, mostPorts, plugAt, plugsOf, portOf}
@@ -78,6 +78,18 @@ abbrev pub refusalOf : Answer → ℕ
 refusalOf (Refused n) = n
 refusalOf (Stepped r) = 0
 refusalOf (Linked cut) = 0
+
+-- its verdict's letter: R if refused, K for a link
+abbrev pub verdictOf : Answer → ℕ
+verdictOf (Refused n) = 0x52
+verdictOf (Stepped r) = letterOf (r .verdict)
+verdictOf (Linked cut) = 0x4B
+
+-- the hosts that received
+abbrev pub receivedBy : Answer → ℕ
+receivedBy (Refused n) = 0
+receivedBy (Stepped r) = r .received
+receivedBy (Linked cut) = 0
 
 -- number and values of each case
 abbrev pub told : Answer → Told

@@ -14,7 +14,7 @@ ghost use Rattle.cabling.specs.Cabling.{plugsOf};
 ghost use Rattle.flight.specs.Flight.{copiesIn, without};
 ghost use Rattle.turn.specs.Send.{Written};
 ghost use Rattle.turn.specs.Turn as spec;
-ghost use Rattle.turn.specs.Turn.{CanTake, CanTurn, Kept, Laid, Spares, Turns, headOf, hostOf, portTo, presents, sets, staying, steps, takes, turnOf};
+ghost use Rattle.turn.specs.Turn.{CanTake, CanTurn, Kept, Laid, Spares, Turns, headOf, hostOf, portTo, presents, receivedBy, refusalOf, sets, staying, steps, takes, turnOf, verdictOf};
 use cabling::End;
 use cabling::port_of;
 use event::Event;
@@ -30,6 +30,7 @@ use network::places::nth_host;
 use refusal::or_when;
 use rules::Arrival;
 use rules::Verdict;
+use rules::letter_of;
 use seat::Seat;
 use seat::from_link;
 use sending::send_out;
@@ -61,6 +62,42 @@ pub struct Turned {
     pub seat: Seat,
     pub answer: Answer,
     pub flying: usize,
+}
+
+// The refusal number, or 0.
+pub fn refusal_of(a: Answer) -> u8
+    ensures { λ r. ⌜ r ≡ refusalOf a ⌝ }
+{
+    match a {
+        Answer::Refused(n) => n,
+        Answer::Stepped(_) => 0,
+        Answer::Linked(_) => 0,
+    }
+}
+
+// The letter of the verdict: R if refused, K for a link.
+pub fn verdict_of(a: Answer) -> u8
+    ensures { λ r. ⌜ r ≡ verdictOf a ⌝ }
+{
+    match a {
+        Answer::Refused(_) => b'R',
+        Answer::Stepped(r) => {
+            let verdict = r.verdict;
+            letter_of(verdict)
+        }
+        Answer::Linked(_) => b'K',
+    }
+}
+
+// The hosts that received, bit i for host i.
+pub fn received_by(a: Answer) -> u32
+    ensures { λ r. ⌜ r ≡ receivedBy a ⌝ }
+{
+    match a {
+        Answer::Refused(_) => 0,
+        Answer::Stepped(r) => r.received,
+        Answer::Linked(_) => 0,
+    }
 }
 
 // The host with a number.

@@ -147,23 +147,9 @@ pub(crate) fn put_filter(out: &mut [u8], to: usize, filter: &[u8]) -> usize {
     print::differing(out, a, b"cell", &empty, filter)
 }
 
-pub(crate) fn letter_of(v: Verdict) -> u8 {
-    match v {
-        Verdict::X => b'X',
-        Verdict::D => b'D',
-        Verdict::G => b'G',
-        Verdict::E => b'E',
-        Verdict::F(_) => b'F',
-        Verdict::N(_) => b'N',
-        Verdict::B(_) => b'B',
-        Verdict::H(_) => b'H',
-        Verdict::U(_) => b'U',
-    }
-}
-
 // The verdict's letter, and the mask and header of what is sent.
 pub(crate) fn put_verdict(out: &mut [u8], to: usize, v: Verdict) -> usize {
-    let a = print::letter(out, to, letter_of(v));
+    let a = print::letter(out, to, rules::letter_of(v));
     let sending = rules::sending_of(v);
     match sending {
         Sending::Nothing => print::text(out, a, b" 0000 0 0 0 0"),

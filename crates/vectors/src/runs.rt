@@ -1,7 +1,6 @@
 // A whole run: a description, and event after event on its fresh bench, each with its line and its
 // report.
 use crate::benches;
-use crate::heads;
 use crate::print;
 use crate::token;
 use bench::Bench;
@@ -21,33 +20,6 @@ struct Running {
     number: u32,
     to: usize,
     open: bool,
-}
-
-fn refusal_of(a: Answer) -> u8 {
-    match a {
-        Answer::Refused(n) => n,
-        Answer::Stepped(_) => 0,
-        Answer::Linked(_) => 0,
-    }
-}
-
-fn verdict_of(a: Answer) -> u8 {
-    match a {
-        Answer::Refused(_) => b'R',
-        Answer::Stepped(r) => {
-            let v = r.verdict;
-            heads::letter_of(v)
-        }
-        Answer::Linked(_) => b'K',
-    }
-}
-
-fn received_by(a: Answer) -> u32 {
-    match a {
-        Answer::Refused(_) => 0,
-        Answer::Stepped(r) => r.received,
-        Answer::Linked(_) => 0,
-    }
 }
 
 fn put_line(
@@ -89,9 +61,9 @@ fn put_event(
         to,
         number,
         event::letter_of(e),
-        refusal_of(answer),
-        verdict_of(answer),
-        received_by(answer),
+        turn::refusal_of(answer),
+        turn::verdict_of(answer),
+        turn::received_by(answer),
         (flying % 0x1_0000) as u16,
     );
     benches::put_report(out, a, answer)
