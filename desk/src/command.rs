@@ -1,0 +1,156 @@
+//! The command line: what is asked, and the commands themselves.
+
+use crate::answer::Transcript;
+use crate::bytes;
+use crate::failure::Failure;
+use crate::naming;
+use crate::output;
+use crate::proved::{Bench, Proved};
+use crate::refusal;
+use crate::run::{self, Source, Trial};
+
+const HELP: &str = "\
+stand: a stand as text, tried on the proved bench, and seen
+
+    stand run FILE             each event in words beside the bench's line, then the counters
+    stand run --quiet FILE     the bench's lines alone
+    stand check FILE           reads the file and has the proved reader read the stand; runs nothing
+    stand draw FILE            a picture (SVG) of the stand after the run; pulled cables are dashed
+    stand draw --to GAUGE FILE the same, with the ports recorded for that gauge as arrows
+    stand bytes FILE           the bench's input
+    stand text FILE.bin        a stand file of the bench's input, with invented names
+    stand help                 this
+
+draw, bytes and text write to standard output, or into a file with --out FILE.
+
+A stand file has a statement on each line; # starts a comment:
+
+    head S0 ports 4 hops 16 salt 1       hops (or `hops default`: 16) and salt (0) may be left out
+    gauge P1 on S0 port 0 address 02:00:00:00:00:01
+    cable C0 from S0 port 1 to S1 port 2
+    send P1 to P2                        or to an address, or to everyone
+    take 0                               the copy at that place of the list, the oldest at 0
+    take all                             until nothing is in flight, first come, first served
+    take shuffled 7                      the same in an order drawn from the seed 7
+    pull C0
+    plug C0
+
+Heads, gauges and cables in any order, then the events. desk/FORMAT.md says it all.
+";
+
+/// What is on a command line behind the command's name.
+#[derive(Default, Debug, PartialEq)]
+struct Arguments {
+    file: Option<String>,
+    quiet: bool,
+    to: Option<String>,
+    out: Option<String>,
+}
+
+fn usage(why: &str) -> Failure {
+    Failure::Usage(format!("stand: {why}\n`stand help` shows the commands\n"))
+}
+
+/// The options are those that the command allows.
+fn arguments(words: &[String], options: &[&str]) -> Result<Arguments, Failure> {
+    let mut arguments = Arguments::default();
+    let mut words = words.iter();
+    while let Some(word) = words.next() {
+        let mut value = || {
+            words
+                .next()
+                .cloned()
+                .ok_or_else(|| usage(&format!("{word} needs a word behind it")))
+        };
+        match word.as_str() {
+            option if option.starts_with('-') && !options.contains(&option) => {
+                return Err(usage(&format!("this command has no option {option}")));
+            }
+            "--quiet" => arguments.quiet = true,
+            "--to" => arguments.to = Some(value()?),
+            "--out" => arguments.out = Some(value()?),
+            file if arguments.file.is_none() => arguments.file = Some(file.to_string()),
+            more => return Err(usage(&format!("one file is enough: {more}"))),
+        }
+    }
+    Ok(arguments)
+}
+
+/// Does what the command line says.
+pub fn command(words: &[String]) -> Result<(), Failure> {
+    let Some((name, rest)) = words.split_first() else {
+        return Err(Failure::Usage(HELP.to_string()));
+    };
+    let options: &[&str] = match name.as_str() {
+        "help" | "--help" | "-h" => return output::put(HELP.as_bytes(), None),
+        "run" => &["--quiet"],
+        "check" => &[],
+        "draw" => &["--to", "--out"],
+        "bytes" | "text" => &["--out"],
+        _ => return Err(usage(&format!("there is no command {name}"))),
+    };
+    let arguments = arguments(rest, options)?;
+    let Some(file) = &arguments.file else {
+        return Err(usage(&format!("{name} needs a file")));
+    };
+    match name.as_str() {
+        "run" => run(file, arguments.quiet),
+        "check" => check(file),
+        "draw" => Ok(()),
+        "bytes" => bytes(file, arguments.out.as_deref()),
+        _ => text(file, arguments.out.as_deref()),
+    }
+}
+
+fn run(file: &str, quiet: bool) -> Result<(), Failure> {
+    let proved = Proved::here()?;
+    let trial = Trial::read(file, &proved)?;
+    let (printed, refused) = trial.printed(&proved)?;
+    if quiet || refused.is_some() {
+        output::put(printed.as_bytes(), None)?;
+        return refused.map_or(Ok(()), Err);
+    }
+    let answer = trial.answer(&printed, &proved)?;
+    output::put(trial.told(&printed, &answer)?.as_bytes(), None)
+}
+
+fn check(file: &str) -> Result<(), Failure> {
+    let source = Source::read(file)?;
+    source.check(&Proved::here()?)?;
+    let stand = &source.stand;
+    let counted = [
+        (stand.heads.len(), "heads"),
+        (stand.gauges.len(), "gauges"),
+        (stand.cables.len(), "cables"),
+        (stand.orders.len(), "lines of events"),
+    ];
+    let counted: Vec<String> =
+        counted.iter().map(|(number, what)| format!("{number} {what}")).collect();
+    output::put(format!("{file}: {}\n", counted.join(", ")).as_bytes(), None)
+}
+
+fn bytes(file: &str, out: Option<&str>) -> Result<(), Failure> {
+    let trial = Trial::read(file, &Proved::here()?)?;
+    output::put(&trial.input, out)
+}
+
+fn text(file: &str, out: Option<&str>) -> Result<(), Failure> {
+    let input = run::read(file)?;
+    let refused = |number: u8, what: &str| {
+        let words = refusal::words(number);
+        Failure::Stand(format!("{file}: {what} {number}: {words}\n"))
+    };
+    match Proved::here()?.judge(&input)? {
+        Transcript::Refused(number) => Err(refused(number, "refused")),
+        Transcript::Lines { lines, stopped: true } => {
+            let bad = lines.len() + 1;
+            Err(refused(20, &format!("event {bad} is no record, stop")))
+        }
+        Transcript::Lines { .. } => match bytes::records(&input) {
+            Some(records) => output::put(naming::text(&records).as_bytes(), out),
+            None => Err(Failure::Machine(format!(
+                "{file}: the desk can't take apart what the bench accepts\n"
+            ))),
+        },
+    }
+}

@@ -1,0 +1,113 @@
+//! The proved programs, started by the project's own `run`: `stumpclover` judges an
+//! input, `vectors` tells what its lines don't show.
+
+use std::env;
+use std::fmt::Write as _;
+use std::io::Write;
+use std::path::PathBuf;
+use std::process::{Command, Output, Stdio};
+use std::thread;
+
+use crate::answer::{self, Answer, Transcript};
+use crate::failure::Failure;
+use crate::output;
+
+/// Where the project stands; the script `stand` sets it.
+pub const ROOT: &str = "STAND_ROOT";
+
+/// What judges an input: the proved program, or a stand-in in the tests.
+pub trait Bench {
+    fn judge(&self, input: &[u8]) -> Result<Transcript, Failure>;
+}
+
+pub struct Proved {
+    root: PathBuf,
+}
+
+impl Bench for Proved {
+    fn judge(&self, input: &[u8]) -> Result<Transcript, Failure> {
+        answer::transcript(&self.printed(input)?)
+    }
+}
+
+impl Proved {
+    pub fn here() -> Result<Self, Failure> {
+        match env::var_os(ROOT) {
+            Some(root) => Ok(Proved { root: PathBuf::from(root) }),
+            None => Err(Failure::Machine(format!(
+                "the desk doesn't know where the project is: start it by ./stand, or set {ROOT}\n"
+            ))),
+        }
+    }
+
+    /// What the bench program prints for the input, byte for byte.
+    pub fn printed(&self, input: &[u8]) -> Result<String, Failure> {
+        self.start("stumpclover", input)
+    }
+
+    /// What `vectors` says of the same input.
+    pub fn answer(&self, input: &[u8]) -> Result<Answer, Failure> {
+        let line = format!("run {} 0\n", hex(input));
+        answer::run(&self.start("vectors", line.as_bytes())?)
+    }
+
+    /// For each description, whether the proved reader accepts it.
+    pub fn accepted(&self, descriptions: &[Vec<u8>]) -> Result<Vec<bool>, Failure> {
+        let mut lines = String::new();
+        for bytes in descriptions {
+            let _ = writeln!(lines, "read {} 0", hex(bytes));
+        }
+        let answers = self.start("vectors", lines.as_bytes())?;
+        let verdicts = answers.lines().filter(|line| !line.is_empty());
+        Ok(verdicts
+            .filter_map(|line| match line.split(' ').next() {
+                Some("read") => Some(true),
+                Some("refused") => Some(false),
+                _ => None,
+            })
+            .collect())
+    }
+
+    fn start(&self, name: &str, input: &[u8]) -> Result<String, Failure> {
+        if !self.root.join("target/bin").join(name).exists() {
+            output::say(&format!(
+                "stand: the proved program {name} isn't built yet; \
+                 proving and building it takes some minutes, once\n"
+            ));
+        }
+        let failed = |why: String| Failure::Machine(format!("./run {name} failed: {why}\n"));
+        let ended = self.feed(name, input).map_err(|error| failed(error.to_string()))?;
+        if !ended.status.success() {
+            return Err(failed(format!(
+                "{}; is the Rattle kit's rt on the path?",
+                ended.status
+            )));
+        }
+        String::from_utf8(ended.stdout).map_err(|_| failed("it printed no text".to_string()))
+    }
+
+    /// The input is written beside the reading, for neither shall wait for the other.
+    fn feed(&self, name: &str, input: &[u8]) -> std::io::Result<Output> {
+        let mut child = Command::new(self.root.join("run"))
+            .arg(name)
+            .stdin(Stdio::piped())
+            .stdout(Stdio::piped())
+            .spawn()?;
+        let stdin = child.stdin.take();
+        thread::scope(|scope| {
+            scope.spawn(move || {
+                // A program that ends before it has read all says why by its status.
+                let _ = stdin.map(|mut stdin| stdin.write_all(input));
+            });
+            child.wait_with_output()
+        })
+    }
+}
+
+fn hex(bytes: &[u8]) -> String {
+    let mut digits = String::with_capacity(2 * bytes.len());
+    for byte in bytes {
+        let _ = write!(digits, "{byte:02x}");
+    }
+    digits
+}
