@@ -2,7 +2,9 @@
 
 use crate::answer::Transcript;
 use crate::bytes;
+use crate::draw::{self, View};
 use crate::failure::Failure;
+use crate::mistake::quoted;
 use crate::naming;
 use crate::output;
 use crate::proved::{Bench, Proved};
@@ -96,7 +98,7 @@ pub fn command(words: &[String]) -> Result<(), Failure> {
     match name.as_str() {
         "run" => run(file, arguments.quiet),
         "check" => check(file),
-        "draw" => Ok(()),
+        "draw" => draw(file, &arguments),
         "bytes" => bytes(file, arguments.out.as_deref()),
         _ => text(file, arguments.out.as_deref()),
     }
@@ -112,6 +114,24 @@ fn run(file: &str, quiet: bool) -> Result<(), Failure> {
     }
     let answer = trial.answer(&printed, &proved)?;
     output::put(trial.told(&printed, &answer)?.as_bytes(), None)
+}
+
+fn draw(file: &str, arguments: &Arguments) -> Result<(), Failure> {
+    let proved = Proved::here()?;
+    let trial = Trial::read(file, &proved)?;
+    let stand = &trial.source.stand;
+    let to = arguments.to.as_ref().map(|to| {
+        let found = stand.gauges.iter().position(|gauge| &gauge.name == to);
+        found.ok_or_else(|| {
+            Failure::Stand(format!("{file}: there is no gauge {}\n", quoted(to)))
+        })
+    });
+    let to = to.transpose()?;
+    let (printed, refused) = trial.printed(&proved)?;
+    refused.map_or(Ok(()), Err)?;
+    let answer = trial.answer(&printed, &proved)?;
+    let svg = draw::svg(&View { stand, answer: &answer, to, title: file })?;
+    output::put(svg.as_bytes(), arguments.out.as_deref())
 }
 
 fn check(file: &str) -> Result<(), Failure> {
