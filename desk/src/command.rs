@@ -104,34 +104,52 @@ pub fn command(words: &[String]) -> Result<(), Failure> {
     }
 }
 
+/// The bench's own word for a refused stand goes where its lines go.
 fn run(file: &str, quiet: bool) -> Result<(), Failure> {
+    match told(file, quiet) {
+        Ok(told) => output::put(told.as_bytes(), None),
+        Err(failure) => {
+            if let Failure::Refused { number, .. } = failure {
+                output::put(format!("refused {number}\n").as_bytes(), None)?;
+            }
+            Err(failure)
+        }
+    }
+}
+
+fn told(file: &str, quiet: bool) -> Result<String, Failure> {
     let proved = Proved::here()?;
     let trial = Trial::read(file, &proved)?;
-    let (printed, refused) = trial.printed(&proved)?;
-    if quiet || refused.is_some() {
-        output::put(printed.as_bytes(), None)?;
-        return refused.map_or(Ok(()), Err);
+    let printed = trial.printed(&proved)?;
+    if quiet {
+        return Ok(printed);
     }
     let answer = trial.answer(&printed, &proved)?;
-    output::put(trial.told(&printed, &answer)?.as_bytes(), None)
+    trial.told(&printed, &answer)
 }
 
 fn draw(file: &str, arguments: &Arguments) -> Result<(), Failure> {
     let proved = Proved::here()?;
     let trial = Trial::read(file, &proved)?;
     let stand = &trial.source.stand;
-    let to = arguments.to.as_ref().map(|to| {
-        let found = stand.gauges.iter().position(|gauge| &gauge.name == to);
-        found.ok_or_else(|| {
-            Failure::Stand(format!("{file}: there is no gauge {}\n", quoted(to)))
-        })
-    });
-    let to = to.transpose()?;
-    let (printed, refused) = trial.printed(&proved)?;
-    refused.map_or(Ok(()), Err)?;
+    let to = match &arguments.to {
+        Some(name) => Some(gauge(&trial.source, name)?),
+        None => None,
+    };
+    let printed = trial.printed(&proved)?;
     let answer = trial.answer(&printed, &proved)?;
     let svg = draw::svg(&View { stand, answer: &answer, to, title: file })?;
     output::put(svg.as_bytes(), arguments.out.as_deref())
+}
+
+/// The number of the gauge that --to names.
+fn gauge(source: &Source, name: &str) -> Result<usize, Failure> {
+    let gauges = &source.stand.gauges;
+    gauges.iter().position(|gauge| gauge.name == name).ok_or_else(|| {
+        let names: Vec<&str> = gauges.iter().map(|gauge| gauge.name.as_str()).collect();
+        let (file, name, names) = (&source.file, quoted(name), names.join(", "));
+        Failure::Stand(format!("{file}: there is no gauge {name}; its gauges: {names}\n"))
+    })
 }
 
 fn check(file: &str) -> Result<(), Failure> {

@@ -2,8 +2,10 @@
 
 #[derive(Debug, PartialEq)]
 pub enum Failure {
-    /// The stand file has mistakes, or the proved reader refuses it.
+    /// The stand file has mistakes.
     Stand(String),
+    /// The proved reader refuses the stand, with this number.
+    Refused { number: u8, why: String },
     /// The command line can't be read.
     Usage(String),
     /// Something of the machine is missing or fails: a file, a program, Graphviz.
@@ -16,7 +18,7 @@ impl Failure {
     pub fn status(&self) -> u8 {
         match self {
             Failure::Closed => 0,
-            Failure::Stand(_) => 1,
+            Failure::Stand(_) | Failure::Refused { .. } => 1,
             Failure::Usage(_) => 2,
             Failure::Machine(_) => 3,
         }
@@ -27,6 +29,7 @@ impl Failure {
         match self {
             Failure::Closed => "",
             Failure::Stand(text) | Failure::Usage(text) | Failure::Machine(text) => text,
+            Failure::Refused { why, .. } => why,
         }
     }
 }

@@ -1,6 +1,6 @@
 //! Where heads and gauges stand in a picture: asked of Graphviz, in pixels.
 
-use std::f64::consts::{PI, TAU};
+use std::f64::consts::TAU;
 use std::fmt::Write as _;
 use std::io::{ErrorKind, Write};
 use std::process::{Command, Stdio};
@@ -227,18 +227,21 @@ fn graphviz(graph: &str) -> Result<String, Failure> {
 /// fit into a circle; their order stays.
 pub fn spread(wanted: &[f64], apart: f64) -> Vec<f64> {
     const ROUNDS: usize = 400;
-    let mut angles = wanted.to_vec();
+    let mut angles: Vec<f64> = wanted.iter().map(|angle| angle.rem_euclid(TAU)).collect();
     let mut order: Vec<usize> = (0..angles.len()).collect();
-    order.sort_by(|&a, &b| angles[a].rem_euclid(TAU).total_cmp(&angles[b].rem_euclid(TAU)));
-    let pairs = order.iter().zip(order.iter().cycle().skip(1));
-    let pairs: Vec<(usize, usize)> =
-        pairs.map(|(&a, &b)| (a, b)).filter(|(a, b)| a != b).collect();
-    for (before, behind) in std::iter::repeat_n(&pairs, ROUNDS).flatten().copied() {
-        // Pushed across each other, two would seem almost a whole turn apart.
-        let gap = (angles[behind] - angles[before] + PI / 8.0).rem_euclid(TAU) - PI / 8.0;
-        if gap < apart {
-            angles[before] -= (apart - gap) / 2.0;
-            angles[behind] += (apart - gap) / 2.0;
+    order.sort_by(|&a, &b| angles[a].total_cmp(&angles[b]));
+    let (Some(&first), Some(&last)) = (order.first(), order.last()) else { return angles };
+    // From the last to the first it is once round.
+    let mut pairs: Vec<(usize, usize, f64)> =
+        order.windows(2).map(|pair| (pair[0], pair[1], 0.0)).collect();
+    if first != last {
+        pairs.push((last, first, TAU));
+    }
+    for &(before, behind, round) in std::iter::repeat_n(&pairs, ROUNDS).flatten() {
+        let missing = apart - (angles[behind] + round - angles[before]);
+        if missing > 0.0 {
+            angles[before] -= missing / 2.0;
+            angles[behind] += missing / 2.0;
         }
     }
     angles

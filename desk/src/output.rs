@@ -39,6 +39,11 @@ impl Progress {
         Progress { shown: false, on: io::stderr().is_terminal() }
     }
 
+    /// Shows nothing, wherever it is.
+    pub fn none() -> Self {
+        Progress { shown: false, on: false }
+    }
+
     pub fn show(&mut self, text: &str) {
         if self.on {
             say(&format!("\r\x1b[K{text}"));

@@ -3,14 +3,16 @@
 
 use std::env;
 use std::fmt::Write as _;
-use std::io::Write;
+use std::io::{self, Write};
 use std::path::PathBuf;
 use std::process::{Command, Output, Stdio};
+use std::sync::mpsc::{self, Receiver, RecvTimeoutError};
 use std::thread;
+use std::time::{Duration, Instant};
 
 use crate::answer::{self, Answer, Transcript};
 use crate::failure::Failure;
-use crate::output;
+use crate::output::{self, Progress};
 
 /// Where the project stands; the script `stand` sets it.
 pub const ROOT: &str = "STAND_ROOT";
@@ -69,14 +71,17 @@ impl Proved {
     }
 
     fn start(&self, name: &str, input: &[u8]) -> Result<String, Failure> {
-        if !self.root.join("target/bin").join(name).exists() {
+        let built = self.root.join("target/bin").join(name).exists();
+        let progress = if built { Progress::new() } else { Progress::none() };
+        if !built {
             output::say(&format!(
                 "stand: the proved program {name} isn't built yet; \
                  proving and building it takes some minutes, once\n"
             ));
         }
         let failed = |why: String| Failure::Machine(format!("./run {name} failed: {why}\n"));
-        let ended = self.feed(name, input).map_err(|error| failed(error.to_string()))?;
+        let ended =
+            self.feed(name, input, progress).map_err(|error| failed(error.to_string()))?;
         if !ended.status.success() {
             return Err(failed(format!(
                 "{}; is the Rattle kit's rt on the path?",
@@ -87,20 +92,32 @@ impl Proved {
     }
 
     /// The input is written beside the reading, for neither shall wait for the other.
-    fn feed(&self, name: &str, input: &[u8]) -> std::io::Result<Output> {
+    fn feed(&self, name: &str, input: &[u8], progress: Progress) -> io::Result<Output> {
         let mut child = Command::new(self.root.join("run"))
             .arg(name)
             .stdin(Stdio::piped())
             .stdout(Stdio::piped())
             .spawn()?;
         let stdin = child.stdin.take();
+        let (running, ended) = mpsc::channel();
         thread::scope(|scope| {
             scope.spawn(move || {
                 // A program that ends before it has read all says why by its status.
                 let _ = stdin.map(|mut stdin| stdin.write_all(input));
             });
-            child.wait_with_output()
+            scope.spawn(move || tick(name, progress, &ended));
+            let output = child.wait_with_output();
+            drop(running);
+            output
         })
+    }
+}
+
+/// Shows how long the program has been running, until it has ended.
+fn tick(name: &str, mut progress: Progress, ended: &Receiver<()>) {
+    let start = Instant::now();
+    while ended.recv_timeout(Duration::from_secs(1)) == Err(RecvTimeoutError::Timeout) {
+        progress.show(&format!("{name} has been running for {} s", start.elapsed().as_secs()));
     }
 }
 

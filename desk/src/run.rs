@@ -59,10 +59,10 @@ impl Source {
     }
 
     /// The message for something that a line of the file causes, with the line itself.
-    fn at(&self, line: usize, what: &str) -> Failure {
+    fn at(&self, line: usize, what: &str) -> String {
         let text = self.text.split(|&byte| byte == b'\n').nth(line.saturating_sub(1));
         let text = String::from_utf8_lossy(text.unwrap_or_default());
-        Failure::Stand(format!("{}:{line}: {what}\n    {}\n", self.file, quoted(text.trim())))
+        format!("{}:{line}: {what}\n    {}\n", self.file, quoted(text.trim()))
     }
 
     /// The description is refused: by which line, the proved reader tells. The first faulty
@@ -76,10 +76,11 @@ impl Source {
         };
         let faulty = accepted.iter().position(|accepted| !accepted);
         let lines = self.stand.record_lines();
-        match faulty.and_then(|prefix| lines.get(prefix.checked_sub(1)?)) {
+        let why = match faulty.and_then(|prefix| lines.get(prefix.checked_sub(1)?)) {
             Some(line) => self.at(*line, &what),
-            None => Failure::Stand(format!("{}: {what}\n", self.file)),
-        }
+            None => format!("{}: {what}\n", self.file),
+        };
+        Failure::Refused { number, why }
     }
 
     /// Asks the proved reader about the description alone.
@@ -101,7 +102,7 @@ impl Source {
                      (refusal {number}: {})",
                     refusal::words(number)
                 );
-                self.at(line, &what)
+                Failure::Stand(self.at(line, &what))
             }
         }
     }
@@ -119,14 +120,12 @@ impl Trial {
         Ok(Trial { source, events, input })
     }
 
-    /// What the bench program prints, byte for byte, and why if it refuses the description.
-    pub fn printed(&self, proved: &Proved) -> Result<(String, Option<Failure>), Failure> {
+    /// What the bench program prints, byte for byte.
+    pub fn printed(&self, proved: &Proved) -> Result<String, Failure> {
         let printed = proved.printed(&self.input)?;
         match answer::transcript(&printed)? {
-            Transcript::Refused(number) => {
-                Ok((printed, Some(self.source.refused(number, proved))))
-            }
-            Transcript::Lines { .. } => Ok((printed, None)),
+            Transcript::Refused(number) => Err(self.source.refused(number, proved)),
+            Transcript::Lines { .. } => Ok(printed),
         }
     }
 
