@@ -36,28 +36,31 @@ fn end(end: End) -> [u8; 2] {
     [byte(end.head), end.port]
 }
 
-/// The description's bytes up to the end of each record: first the version byte alone,
-/// last the whole description.
-pub fn prefixes(stand: &Stand) -> Vec<Vec<u8>> {
-    let mut bytes = vec![VERSION];
-    let mut prefixes = vec![bytes.clone()];
-    for Head { ports, hops, salt, .. } in &stand.heads {
-        put(&mut bytes, HEAD, &[&[*ports, *hops], &salt.to_be_bytes()]);
-        prefixes.push(bytes.clone());
-    }
-    for Gauge { at, address, .. } in &stand.gauges {
-        put(&mut bytes, GAUGE, &[&end(*at), &address.0]);
-        prefixes.push(bytes.clone());
-    }
-    for Cable { ends: [first, second], .. } in &stand.cables {
-        put(&mut bytes, CABLE, &[&end(*first), &end(*second)]);
-        prefixes.push(bytes.clone());
-    }
-    prefixes
+/// A description, and where in it each record ends.
+pub struct Description {
+    pub bytes: Vec<u8>,
+    pub ends: Vec<usize>,
 }
 
-pub fn description(stand: &Stand) -> Vec<u8> {
-    prefixes(stand).pop().unwrap_or_default()
+impl Description {
+    fn put(&mut self, kind: u8, fields: &[&[u8]]) {
+        put(&mut self.bytes, kind, fields);
+        self.ends.push(self.bytes.len());
+    }
+}
+
+pub fn description(stand: &Stand) -> Description {
+    let mut description = Description { bytes: vec![VERSION], ends: Vec::new() };
+    for Head { ports, hops, salt, .. } in &stand.heads {
+        description.put(HEAD, &[&[*ports, *hops], &salt.to_be_bytes()]);
+    }
+    for Gauge { at, address, .. } in &stand.gauges {
+        description.put(GAUGE, &[&end(*at), &address.0]);
+    }
+    for Cable { ends: [first, second], .. } in &stand.cables {
+        description.put(CABLE, &[&end(*first), &end(*second)]);
+    }
+    description
 }
 
 pub fn put_event(bytes: &mut Vec<u8>, event: Event) {

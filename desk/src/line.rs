@@ -116,19 +116,17 @@ impl<'a> Line<'a> {
 
     /// A name: a letter, then letters, digits, - and _; at most 32, no word of the format.
     pub fn name(&mut self, what: &str) -> Result<Name, Mistake> {
-        let expected =
-            || format!("{what} (a letter, then letters, digits, - or _, at most 32)");
         match self.peek() {
             Some(word) if WORDS.contains(&word) => {
                 let found = format!("'{word}' is a word of the format and can't be a name");
-                Err(self.mistake(found, expected()))
+                Err(self.mistake(found, what))
             }
             Some(word) if is_name(word) => {
                 let name = Name { text: word.to_string(), column: self.column() };
                 self.next += 1;
                 Ok(name)
             }
-            _ => Err(self.unexpected(expected())),
+            _ => Err(self.unexpected(what)),
         }
     }
 

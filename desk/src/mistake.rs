@@ -34,10 +34,14 @@ pub fn message(file: &str, mistakes: &[Mistake]) -> String {
     text
 }
 
-/// What stands in a file, fit for a message: quoted, cut short, nothing unprintable.
-pub fn quoted(text: &str) -> String {
-    const LONGEST: usize = 40;
-    let shown: String = text.chars().take(LONGEST).flat_map(char::escape_debug).collect();
-    let more = if text.chars().count() > LONGEST { ".." } else { "" };
-    format!("'{shown}{more}'")
+/// A word of the file, fit for a message.
+pub fn quoted(word: &str) -> String {
+    format!("'{}'", shown(word, 40))
+}
+
+/// Cut short after so many characters, and nothing unprintable in it.
+pub fn shown(text: &str, most: usize) -> String {
+    let shown: String = text.chars().take(most).flat_map(char::escape_debug).collect();
+    let more = if text.chars().count() > most { ".." } else { "" };
+    shown + more
 }

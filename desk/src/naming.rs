@@ -73,7 +73,7 @@ mod tests {
 
     fn bytes_again(text: &str) -> Vec<u8> {
         let stand = stand(text.as_bytes()).expect("the desk reads what it writes");
-        let mut bytes = description(&stand);
+        let mut bytes = description(&stand).bytes;
         for order in &stand.orders {
             let Order::Once(event) = order.what else { panic!("no takes are written") };
             put_event(&mut bytes, event);

@@ -51,7 +51,7 @@ impl Numbering {
         for Lined { line, what: Part { name, kind, .. } } in parts {
             if let Some(first) = self.declared.get(&name.text) {
                 let what = format!("the name {} stands on line {} too", name.text, first.line);
-                self.mistake(*line, name.column, what, "a name that stands nowhere else");
+                self.mistake(*line, name.column, what, "a name of its own", *kind);
                 continue;
             }
             self.declared.insert(name.text.clone(), Declared { kind: *kind, line: *line });
@@ -61,8 +61,16 @@ impl Numbering {
         }
     }
 
-    fn mistake(&mut self, line: usize, column: usize, what: String, expected: &str) {
-        let (expected, example) = (expected.to_string(), "head S2 ports 4");
+    /// The example is a line that names something of the kind.
+    fn mistake(
+        &mut self,
+        line: usize,
+        column: usize,
+        what: String,
+        expected: &str,
+        kind: Kind,
+    ) {
+        let (expected, example) = (expected.to_string(), kind.example());
         self.mistakes.push(Mistake { line, column, what, expected, example });
     }
 
@@ -79,8 +87,8 @@ impl Numbering {
             ),
             None => format!("there is no {} {}", kind.word(), quoted(&name.text)),
         };
-        let expected = format!("the name of a {} of this stand", kind.word());
-        self.mistake(line, name.column, what, &expected);
+        let expected = format!("a name that a {} has", kind.word());
+        self.mistake(line, name.column, what, &expected, kind);
     }
 
     fn part(&mut self, part: &Lined<Part>) {

@@ -11,6 +11,7 @@ use std::thread;
 use std::time::{Duration, Instant};
 
 use crate::answer::{self, Answer, Transcript};
+use crate::bytes::Description;
 use crate::failure::Failure;
 use crate::output::{self, Progress};
 
@@ -53,21 +54,20 @@ impl Proved {
         answer::run(&self.start("vectors", line.as_bytes())?)
     }
 
-    /// For each description, whether the proved reader accepts it.
-    pub fn accepted(&self, descriptions: &[Vec<u8>]) -> Result<Vec<bool>, Failure> {
+    /// The first record, from 0, at whose end the proved reader refuses the description.
+    /// Descriptions of more records than this many are refused within the first ones.
+    pub fn faulty(&self, description: &Description) -> Result<Option<usize>, Failure> {
+        const MANY: usize = 128;
         let mut lines = String::new();
-        for bytes in descriptions {
-            let _ = writeln!(lines, "read {} 0", hex(bytes));
+        for end in description.ends.iter().take(MANY) {
+            let _ = writeln!(lines, "read {} 0", hex(&description.bytes[..*end]));
         }
         let answers = self.start("vectors", lines.as_bytes())?;
-        let verdicts = answers.lines().filter(|line| !line.is_empty());
-        Ok(verdicts
-            .filter_map(|line| match line.split(' ').next() {
-                Some("read") => Some(true),
-                Some("refused") => Some(false),
-                _ => None,
-            })
-            .collect())
+        let verdicts = answers.lines().filter(|line| {
+            let word = line.split(' ').next();
+            word == Some("read") || word == Some("refused")
+        });
+        Ok(verdicts.into_iter().position(|line| line.starts_with("refused")))
     }
 
     fn start(&self, name: &str, input: &[u8]) -> Result<String, Failure> {

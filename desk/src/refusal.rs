@@ -25,3 +25,16 @@ pub fn words(number: u8) -> &'static str {
         _ => "a number that the bench program never prints",
     }
 }
+
+/// What it is in a stand file that is refused with this number.
+pub fn hint(number: u8) -> &'static str {
+    match number {
+        22 => "a head has 1 to 8 ports, numbered from 0, and a hop limit of at most 62",
+        23 => "another gauge or cable is on one of these ports",
+        24 => "each gauge has an address of its own; its first byte is even, and it isn't zero",
+        26 => {
+            "the desk sorts by port, so this one shares its port with another, or with itself"
+        }
+        _ => "this line is one too many",
+    }
+}

@@ -83,7 +83,7 @@ impl<'a> Settled<'a> {
     /// A flood sends at most once from each port, and so twice on each cable.
     fn new(stand: &'a Stand) -> Self {
         let guess = 2 * stand.cables.len() + 2;
-        let input = bytes::description(stand);
+        let input = bytes::description(stand).bytes;
         let events = Vec::new();
         Settled { stand, events, order: 0, proposed: 0, guess, least_guess: guess, input }
     }

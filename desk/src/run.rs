@@ -6,7 +6,7 @@ use std::io::Read;
 use crate::answer::{self, Answer, Transcript};
 use crate::bytes;
 use crate::failure::Failure;
-use crate::mistake::{self, quoted};
+use crate::mistake::{self, shown};
 use crate::numbering;
 use crate::proved::{Bench, Proved};
 use crate::refusal;
@@ -62,22 +62,20 @@ impl Source {
     fn at(&self, line: usize, what: &str) -> String {
         let text = self.text.split(|&byte| byte == b'\n').nth(line.saturating_sub(1));
         let text = String::from_utf8_lossy(text.unwrap_or_default());
-        format!("{}:{line}: {what}\n    {}\n", self.file, quoted(text.trim()))
+        format!("{}:{line}: {what}\n    {}\n", self.file, shown(text.trim(), 120))
     }
 
     /// The description is refused: by which line, the proved reader tells. The first faulty
     /// record decides, so the shortest description that is refused ends with it.
     fn refused(&self, number: u8, proved: &Proved) -> Failure {
         let what = format!("refused {number}: {}", refusal::words(number));
-        let prefixes = bytes::prefixes(&self.stand);
-        let accepted = match proved.accepted(&prefixes) {
-            Ok(accepted) => accepted,
+        let faulty = match proved.faulty(&bytes::description(&self.stand)) {
+            Ok(faulty) => faulty,
             Err(failure) => return failure,
         };
-        let faulty = accepted.iter().position(|accepted| !accepted);
         let lines = self.stand.record_lines();
-        let why = match faulty.and_then(|prefix| lines.get(prefix.checked_sub(1)?)) {
-            Some(line) => self.at(*line, &what),
+        let why = match faulty.and_then(|record| lines.get(record)) {
+            Some(line) => self.at(*line, &format!("{what} ({})", refusal::hint(number))),
             None => format!("{}: {what}\n", self.file),
         };
         Failure::Refused { number, why }
@@ -85,7 +83,7 @@ impl Source {
 
     /// Asks the proved reader about the description alone.
     pub fn check(&self, proved: &Proved) -> Result<(), Failure> {
-        match proved.judge(&bytes::description(&self.stand))? {
+        match proved.judge(&bytes::description(&self.stand).bytes)? {
             Transcript::Refused(number) => Err(self.refused(number, proved)),
             Transcript::Lines { .. } => Ok(()),
         }
@@ -96,9 +94,9 @@ impl Source {
             Unresolved::Refused(number) => self.refused(number, proved),
             Unresolved::Failed(failure) => failure,
             Unresolved::TooLong { line, before } => {
-                let (number, most) = (refusal::TOO_MANY, bytes::MOST);
+                let number = refusal::TOO_MANY;
                 let what = format!(
-                    "too many events: one input holds {most} bytes, and {before} events fill it \
+                    "too many events: one input holds 60,000 bytes, and {before} events fill it \
                      (refusal {number}: {})",
                     refusal::words(number)
                 );
@@ -113,7 +111,7 @@ impl Trial {
         let source = Source::read(file)?;
         let events = resolve::events(&source.stand, proved)
             .map_err(|why| source.unresolved(why, proved))?;
-        let mut input = bytes::description(&source.stand);
+        let mut input = bytes::description(&source.stand).bytes;
         for event in &events {
             bytes::put_event(&mut input, event.what);
         }

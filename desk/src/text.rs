@@ -30,7 +30,8 @@ impl Kind {
         }
     }
 
-    fn example(self) -> &'static str {
+    /// A line that gives something of this kind its name.
+    pub fn example(self) -> &'static str {
         match self {
             Kind::Head => HEAD,
             Kind::Gauge => GAUGE,
@@ -143,7 +144,8 @@ impl Lines {
             return Err(line.unexpected("every head, gauge and cable before the first event"));
         }
         line.word(kind.word())?;
-        let name = line.name(&format!("a name for this {}", kind.word()))?;
+        let rule = "a letter, then letters, digits, - or _, at most 32";
+        let name = line.name(&format!("a name for this {} ({rule})", kind.word()))?;
         let body = body(&mut line, kind).and_then(|body| line.end().map(|()| body));
         let (body, mistake) = match body {
             Ok(body) => (Some(body), Ok(())),

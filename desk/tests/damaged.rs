@@ -104,7 +104,7 @@ fn what_is_read_has_the_records_of_its_lines() {
     for sample in SAMPLES {
         let stand = stand(sample.as_bytes()).expect("a sample is read");
         let count = |word: &str| sample.lines().filter(|line| line.starts_with(word)).count();
-        let records = bytes::records(&bytes::description(&stand)).expect("records");
+        let records = bytes::records(&bytes::description(&stand).bytes).expect("records");
         assert_eq!(records.heads.len(), count("head "));
         assert_eq!(records.gauges.len(), count("gauge "));
         assert_eq!(records.cables.len(), count("cable "));

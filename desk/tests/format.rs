@@ -93,7 +93,7 @@ fn a_mistake_is_told_with_its_place_and_what_was_expected() {
 fn names_are_looked_up_and_stand_once() {
     assert_eq!(
         only("send nobody to early"),
-        (6, "there is no gauge 'nobody'; expected the name of a gauge of this stand".into())
+        (6, "there is no gauge 'nobody'; expected a name that a gauge has".into())
     );
     assert!(only("pull late").1.starts_with("late is a gauge (line 3) and not a cable"));
     assert!(only("gauge one on a port 7 address 02:00:00:00:00:07")
