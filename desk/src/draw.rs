@@ -167,19 +167,27 @@ impl<'a> Drawing<'a> {
             let dashed = !self.view.plugged(number);
             let stroke = Stroke { marked: marks[0] || marks[1], dashed };
             let [(from, out), (to, back)] = cable.ends.map(|end| self.port(end));
-            if cable.ends[0].head == cable.ends[1].head {
-                let bow = [from.towards(out, 50.0), to.towards(back, 50.0)];
-                picture.bow(from, bow, to, stroke);
-                picture.label(bow[0].between(bow[1], 0.5), &short(&cable.name));
-                continue;
-            }
-            picture.line(from, to, stroke);
-            // Not all in the middle: the labels of parallel cables stand beside each other.
-            let part = [0.5, 0.41, 0.59][number % 3];
-            picture.label(from.between(to, part), &short(&cable.name));
-            for (marked, tip, start) in [(marks[0], to, from), (marks[1], from, to)] {
+            // A cable from a head to itself bows outwards.
+            let bow = (cable.ends[0].head == cable.ends[1].head)
+                .then(|| [from.towards(out, 50.0), to.towards(back, 50.0)]);
+            let label = match bow {
+                Some(bow) => {
+                    picture.bow(from, bow, to, stroke);
+                    bow[0].between(bow[1], 0.5)
+                }
+                None => {
+                    picture.line(from, to, stroke);
+                    // Not all in the middle: those of parallel cables stand beside each other.
+                    from.between(to, [0.5, 0.41, 0.59][number % 3])
+                }
+            };
+            picture.label(label, &short(&cable.name));
+            let [before_from, before_to] = bow.unwrap_or([to, from]);
+            for (marked, tip, before) in
+                [(marks[0], to, before_to), (marks[1], from, before_from)]
+            {
                 if marked {
-                    let angle = start.angle(tip);
+                    let angle = before.angle(tip);
                     picture.tip(tip.towards(angle, -PORT_RADIUS), angle);
                 }
             }
