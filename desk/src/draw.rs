@@ -5,7 +5,8 @@ use std::f64::consts::PI;
 
 use crate::answer::{Answer, Entry};
 use crate::failure::Failure;
-use crate::layout::{layout, spread, Layout, Point, Sizes};
+use crate::geometry::{spread, Point};
+use crate::layout::{layout, Layout, Sizes};
 use crate::stand::{End, Gauge, Stand};
 use crate::svg::{Picture, Stroke};
 

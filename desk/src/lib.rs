@@ -7,6 +7,7 @@ pub mod bytes;
 pub mod command;
 pub mod draw;
 pub mod failure;
+pub mod geometry;
 pub mod layout;
 pub mod line;
 pub mod mistake;

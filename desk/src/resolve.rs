@@ -31,8 +31,9 @@ impl From<Failure> for Unresolved {
     }
 }
 
-/// When one copy is left, about every fifth place that is drawn is its own.
-const DRAWS: usize = 5;
+/// When one copy is left, about every ninth place that is drawn is its own; mostly there
+/// are more.
+const DRAWS: usize = 6;
 
 pub type Events = Vec<Lined<Event>>;
 

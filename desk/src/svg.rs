@@ -2,7 +2,7 @@
 
 use std::fmt::Write;
 
-use crate::layout::Point;
+use crate::geometry::Point;
 
 pub const INK: &str = "#1f2933";
 pub const WAY: &str = "#c2410c";
