@@ -1,5 +1,7 @@
 //! The command line: what is asked, and the commands themselves.
 
+use std::io::{self, IsTerminal};
+
 use crate::answer::Transcript;
 use crate::bytes;
 use crate::draw::{self, View};
@@ -41,41 +43,30 @@ Heads, gauges and cables in any order, then the events. desk/FORMAT.md says it a
 ";
 
 /// What is on a command line behind the command's name.
-#[derive(Default, Debug, PartialEq)]
+#[derive(Default)]
 struct Arguments {
-    file: Option<String>,
+    file: String,
     quiet: bool,
     to: Option<String>,
     out: Option<String>,
 }
 
-fn usage(why: &str) -> Failure {
-    Failure::Usage(format!("stand: {why}\n`stand help` shows the commands\n"))
+struct Command {
+    name: &'static str,
+    options: &'static [&'static str],
+    act: fn(&Arguments) -> Result<(), Failure>,
 }
 
-/// The options are those that the command allows.
-fn arguments(words: &[String], options: &[&str]) -> Result<Arguments, Failure> {
-    let mut arguments = Arguments::default();
-    let mut words = words.iter();
-    while let Some(word) = words.next() {
-        let mut value = || {
-            words
-                .next()
-                .cloned()
-                .ok_or_else(|| usage(&format!("{word} needs a word behind it")))
-        };
-        match word.as_str() {
-            option if option.starts_with('-') && !options.contains(&option) => {
-                return Err(usage(&format!("this command has no option {option}")));
-            }
-            "--quiet" => arguments.quiet = true,
-            "--to" => arguments.to = Some(value()?),
-            "--out" => arguments.out = Some(value()?),
-            file if arguments.file.is_none() => arguments.file = Some(file.to_string()),
-            more => return Err(usage(&format!("one file is enough: {more}"))),
-        }
-    }
-    Ok(arguments)
+const COMMANDS: [Command; 5] = [
+    Command { name: "run", options: &["--quiet"], act: run },
+    Command { name: "check", options: &[], act: check },
+    Command { name: "draw", options: &["--to", "--out"], act: draw },
+    Command { name: "bytes", options: &["--out"], act: bytes },
+    Command { name: "text", options: &["--out"], act: text },
+];
+
+fn usage(why: &str) -> Failure {
+    Failure::Usage(format!("stand: {why}\n`stand help` shows the commands\n"))
 }
 
 /// Does what the command line says.
@@ -83,30 +74,40 @@ pub fn command(words: &[String]) -> Result<(), Failure> {
     let Some((name, rest)) = words.split_first() else {
         return Err(Failure::Usage(HELP.to_string()));
     };
-    let options: &[&str] = match name.as_str() {
-        "help" | "--help" | "-h" => return output::put(HELP.as_bytes(), None),
-        "run" => &["--quiet"],
-        "check" => &[],
-        "draw" => &["--to", "--out"],
-        "bytes" | "text" => &["--out"],
-        _ => return Err(usage(&format!("there is no command {name}"))),
-    };
-    let arguments = arguments(rest, options)?;
-    let Some(file) = &arguments.file else {
-        return Err(usage(&format!("{name} needs a file")));
-    };
-    match name.as_str() {
-        "run" => run(file, arguments.quiet),
-        "check" => check(file),
-        "draw" => draw(file, &arguments),
-        "bytes" => bytes(file, arguments.out.as_deref()),
-        _ => text(file, arguments.out.as_deref()),
+    if ["help", "--help", "-h"].contains(&name.as_str()) {
+        return output::put(HELP.as_bytes(), None);
+    }
+    match COMMANDS.iter().find(|command| command.name == name) {
+        Some(command) => (command.act)(&arguments(command, rest)?),
+        None => Err(usage(&format!("there is no command {name}"))),
     }
 }
 
+fn arguments(command: &Command, words: &[String]) -> Result<Arguments, Failure> {
+    let mut arguments = Arguments::default();
+    let mut words = words.iter();
+    while let Some(word) = words.next() {
+        let needs = || usage(&format!("{word} needs a word behind it"));
+        match word.as_str() {
+            option if option.starts_with('-') && !command.options.contains(&option) => {
+                return Err(usage(&format!("{} has no option {option}", command.name)));
+            }
+            "--quiet" => arguments.quiet = true,
+            "--to" => arguments.to = Some(words.next().ok_or_else(needs)?.clone()),
+            "--out" => arguments.out = Some(words.next().ok_or_else(needs)?.clone()),
+            file if arguments.file.is_empty() => arguments.file = file.to_string(),
+            more => return Err(usage(&format!("one file is enough: {more}"))),
+        }
+    }
+    if arguments.file.is_empty() {
+        return Err(usage(&format!("{} needs a file", command.name)));
+    }
+    Ok(arguments)
+}
+
 /// The bench's own word for a refused stand goes where its lines go.
-fn run(file: &str, quiet: bool) -> Result<(), Failure> {
-    match told(file, quiet) {
+fn run(arguments: &Arguments) -> Result<(), Failure> {
+    match told(&arguments.file, arguments.quiet) {
         Ok(told) => output::put(told.as_bytes(), None),
         Err(failure) => {
             if let Failure::Refused { number, .. } = failure {
@@ -128,8 +129,8 @@ fn told(file: &str, quiet: bool) -> Result<String, Failure> {
     trial.told(&printed, &answer)
 }
 
-fn draw(file: &str, arguments: &Arguments) -> Result<(), Failure> {
-    let proved = Proved::here()?;
+fn draw(arguments: &Arguments) -> Result<(), Failure> {
+    let (file, proved) = (&arguments.file, Proved::here()?);
     let trial = Trial::read(file, &proved)?;
     let stand = &trial.source.stand;
     let to = match &arguments.to {
@@ -152,7 +153,8 @@ fn gauge(source: &Source, name: &str) -> Result<usize, Failure> {
     })
 }
 
-fn check(file: &str) -> Result<(), Failure> {
+fn check(arguments: &Arguments) -> Result<(), Failure> {
+    let file = &arguments.file;
     let source = Source::read(file)?;
     source.check(&Proved::here()?)?;
     let stand = &source.stand;
@@ -167,12 +169,17 @@ fn check(file: &str) -> Result<(), Failure> {
     output::put(format!("{file}: {}\n", counted.join(", ")).as_bytes(), None)
 }
 
-fn bytes(file: &str, out: Option<&str>) -> Result<(), Failure> {
-    let trial = Trial::read(file, &Proved::here()?)?;
+fn bytes(arguments: &Arguments) -> Result<(), Failure> {
+    let out = arguments.out.as_deref();
+    if out.is_none() && io::stdout().is_terminal() {
+        return Err(usage("bytes are not for a terminal: --out FILE writes them into a file"));
+    }
+    let trial = Trial::read(&arguments.file, &Proved::here()?)?;
     output::put(&trial.input, out)
 }
 
-fn text(file: &str, out: Option<&str>) -> Result<(), Failure> {
+fn text(arguments: &Arguments) -> Result<(), Failure> {
+    let (file, out) = (&arguments.file, arguments.out.as_deref());
     let input = run::read(file)?;
     let refused = |number: u8, what: &str| {
         let words = refusal::words(number);
