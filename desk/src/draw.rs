@@ -48,11 +48,15 @@ fn sizes(stand: &Stand) -> Sizes {
     }
 }
 
+/// Cut in the middle: names often differ at the end.
 fn short(name: &str) -> String {
-    if name.chars().count() <= LONGEST_NAME {
+    let letters: Vec<char> = name.chars().collect();
+    if letters.len() <= LONGEST_NAME {
         return name.to_string();
     }
-    name.chars().take(LONGEST_NAME - 1).chain(['…']).collect()
+    let (before, behind) = (LONGEST_NAME / 2 - 1, LONGEST_NAME / 2);
+    let ends = letters[..before].iter().chain(['…'].iter());
+    ends.chain(&letters[letters.len() - behind..]).collect()
 }
 
 impl View<'_> {

@@ -9,6 +9,11 @@ pub struct Address(pub [u8; 6]);
 
 impl Address {
     pub const EVERYONE: Address = Address([0xff; 6]);
+
+    /// An address of many, which no head records: the first byte is odd.
+    pub fn is_group(self) -> bool {
+        self.0[0] & 1 == 1
+    }
 }
 
 impl fmt::Display for Address {

@@ -103,6 +103,8 @@ pub struct Lines {
 }
 
 pub fn read(file: &[u8]) -> Lines {
+    const BYTE_ORDER_MARK: &[u8] = b"\xef\xbb\xbf";
+    let file = file.strip_prefix(BYTE_ORDER_MARK).unwrap_or(file);
     let mut lines = Lines::default();
     for (at, bytes) in file.split(|&byte| byte == b'\n').enumerate() {
         let bytes = bytes.strip_suffix(b"\r").unwrap_or(bytes);

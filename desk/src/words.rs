@@ -58,14 +58,18 @@ fn asked(stand: &Stand, happened: &Happened) -> String {
 fn step(stand: &Stand, report: &Report, stepped: &Stepped) -> String {
     let head = stand.head_name(stepped.head);
     let to = stand.address_name(stepped.destination);
+    let lacks = match stepped.destination.is_group() {
+        true => format!("keeps no record of {to}"),
+        false => format!("has no way to {to}"),
+    };
     let ports = ports(report.mask);
     match report.verdict {
         'X' => format!("head {head} drops it, too many hops"),
         'D' => format!("head {head} drops it, a duplicate"),
         'F' => format!("head {head} floods on {ports}"),
-        'N' => format!("head {head} has no way to {to} and floods on {ports}"),
-        'B' => format!("head {head} has no way to {to}, floods and sends back, on {ports}"),
-        'G' => format!("head {head} has no way to {to} and drops it"),
+        'N' => format!("head {head} {lacks} and floods on {ports}"),
+        'B' => format!("head {head} {lacks}, floods and sends back, on {ports}"),
+        'G' => format!("head {head} {lacks} and drops it"),
         'H' => format!("head {head} sends it back on {ports}"),
         'E' => format!("head {head} drops it and forgets {to}"),
         'U' => format!("head {head} sends it on {ports}"),

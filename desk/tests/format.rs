@@ -65,6 +65,13 @@ fn events_are_read_by_name_and_by_number() {
 }
 
 #[test]
+fn a_byte_order_mark_and_carriage_returns_are_no_part_of_the_text() {
+    let plain = stand(PARTS.as_bytes()).expect("a stand");
+    let windows = format!("\u{feff}{}", PARTS.replace('\n', "\r\n"));
+    assert_eq!(stand(windows.as_bytes()), Ok(plain));
+}
+
+#[test]
 fn a_mistake_is_told_with_its_place_and_what_was_expected() {
     let (column, told) = only("sand P1 to P2");
     assert_eq!(column, 1);
