@@ -39,7 +39,6 @@ pub struct Entry {
     pub head: usize,
     pub address: Address,
     pub port: u8,
-    pub hops: u8,
 }
 
 /// What `vectors` says of a whole run.
@@ -103,14 +102,10 @@ impl Answer {
             ["report", fields @ ..] => *self.reports.last_mut()? = Some(report(fields)?),
             ["states", states] => self.states = u64::from_str_radix(states, 16).ok()?,
             ["seat", number] => *seat = number.parse().ok()?,
-            ["slot", _, address, port, hops] => {
-                let (port, hops) = (port.parse().ok()?, hops.parse().ok()?);
-                self.entries.push(Entry {
-                    head: *seat,
-                    address: self::address(address)?,
-                    port,
-                    hops,
-                });
+            ["slot", _, address, port, _hops] => {
+                let (head, address, port) =
+                    (*seat, self::address(address)?, port.parse().ok()?);
+                self.entries.push(Entry { head, address, port });
             }
             ["copies", number] => self.in_flight = number.parse().ok()?,
             ["counters", fields @ ..] => {

@@ -9,6 +9,7 @@ use crate::geometry::{spread, Point};
 use crate::layout::{layout, Layout, Sizes};
 use crate::stand::{End, Gauge, Stand};
 use crate::svg::{Picture, Stroke};
+use crate::words;
 
 const PORT_RADIUS: f64 = 8.0;
 
@@ -74,7 +75,9 @@ impl View<'_> {
     fn captions(&self) -> Vec<String> {
         let events = self.answer.lines.len();
         let pulled = (0..self.stand.cables.len()).filter(|&cable| !self.plugged(cable)).count();
-        let mut captions = vec![format!("{}, after {events} events", self.title)];
+        let copies = words::copies(self.answer.in_flight);
+        let mut captions =
+            vec![format!("{}, after {events} events, {copies} in flight", self.title)];
         if pulled > 0 {
             captions.push(format!("dashed: pulled ({pulled})"));
         }

@@ -104,7 +104,7 @@ fn some(number: usize, what: &str) -> Option<String> {
 }
 
 /// "no copies", "one copy", "two copies"; larger numbers in digits.
-fn copies(number: usize) -> String {
+pub fn copies(number: usize) -> String {
     const SMALL: [&str; 13] = [
         "no", "one", "two", "three", "four", "five", "six", "seven", "eight", "nine", "ten",
         "eleven", "twelve",

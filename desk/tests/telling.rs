@@ -64,8 +64,9 @@ fn an_answer_is_taken_apart() {
     assert_eq!(answer.lines[1], "2 T 0 F 00000002 0");
     assert_eq!(answer.reports[2], None);
     assert_eq!((answer.states, answer.in_flight), (1, 0));
-    let entries: Vec<_> = answer.entries.iter().map(|e| (e.head, e.port, e.hops)).collect();
-    assert_eq!(entries, [(0, 0, 1), (1, 1, 2)]);
+    let entries: Vec<_> =
+        answer.entries.iter().map(|e| (e.head, e.port, e.address.0[5])).collect();
+    assert_eq!(entries, [(0, 0, 1), (1, 1, 1)]);
     let counters =
         "counters: placed 1, taken 1, cut 0, lost 0, delivered 1, overwritten 1, accepted 2";
     assert_eq!(words::counters(&answer.counters), counters);
