@@ -9,11 +9,20 @@
 //! * `bench`: the network bench, events, reports and counters
 //! * `transcript`: what the bench program reads and prints
 //! * `vectors`: single calls as lines of text (FORMAT.md)
+//!
+//! What its tools share:
+//!
+//! * `gate`: the seed and the count of the gate's run of `compare`
+//! * `places`: where the tools find each other and what they write
+//! * `random`: numbers from a seed
 
 pub mod bench;
 pub mod description;
 pub mod filter;
 pub mod frame;
+pub mod gate;
+pub mod places;
+pub mod random;
 pub mod refusal;
 pub mod step;
 pub mod table;

@@ -1,6 +1,6 @@
 //! Addresses: few, so that they meet again, and some at the edges.
 
-use crate::random::Random;
+use second::random::Random;
 
 pub const GROUP: u64 = 1 << 40;
 pub const BEYOND: u64 = 1 << 48;
@@ -27,7 +27,7 @@ pub fn source(r: &mut Random) -> u64 {
 
 /// A source that hardly stands anywhere else.
 pub fn any_source(r: &mut Random) -> u64 {
-    (r.next() & (BEYOND - 1) & !GROUP) | 4
+    (r.draw() & (BEYOND - 1) & !GROUP) | 4
 }
 
 pub fn destination(r: &mut Random) -> u64 {
@@ -48,6 +48,6 @@ pub fn bad_source(r: &mut Random, wide: bool) -> u64 {
         2 => 0x0100_0000_0000,
         3 => r.pick(&POOL) | BEYOND,
         4 => BEYOND,
-        _ => r.next() | BEYOND,
+        _ => r.draw() | BEYOND,
     }
 }

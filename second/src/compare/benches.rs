@@ -4,13 +4,13 @@ use crate::addresses::{self, BEYOND};
 use crate::heads;
 use crate::lines;
 use crate::networks;
-use crate::random::Random;
 use crate::runs::{self, Habit};
 use crate::Widths;
 use second::bench::{Bench, CopyInFlight, Counters, Event, COPIES_MAX, EVENTS_MAX};
 use second::description::{End, Network};
 use second::filter::Triple;
 use second::frame::{Header, NONCES};
+use second::random::Random;
 
 pub fn write_vector(r: &mut Random, labels: &mut Vec<&'static str>) -> String {
     let network = network_value(r, labels, 60);
@@ -143,7 +143,7 @@ fn fill_copies(r: &mut Random, bench: &mut Bench, pool: &[u64]) {
 fn made_up_counters(r: &mut Random, copies: u16) -> Counters {
     let accepted = r.pick(&[0, 1, 2, 77, 4_000, EVENTS_MAX - 1]);
     let mut counter = || {
-        let any = r.next() % (8 * accepted + 1);
+        let any = r.draw() % (8 * accepted + 1);
         r.pick(&[0, any, any, 8 * accepted])
     };
     let (taken, cut, lost) = (counter(), counter(), counter());
@@ -174,8 +174,8 @@ fn litter(r: &mut Random, bench: &mut Bench) {
             bench.copies[place] = CopyInFlight {
                 link: r.byte(),
                 end: r.below(2) as u8,
-                source: r.next(),
-                destination: r.next(),
+                source: r.draw(),
+                destination: r.draw(),
                 header: Header { l: r.flag(), f: r.flag(), hc: r.byte(), nonce: r.word() },
             };
         }

@@ -1,10 +1,10 @@
 //! Descriptions as bytes, valid and damaged.
 
 use crate::networks;
-use crate::random::Random;
 use second::bench::Event;
 use second::description::{Network, HOST, LINK, SWITCH};
 use second::frame::address_bytes;
+use second::random::Random;
 
 /// Records one by one, without any check.
 pub fn records(network: &Network) -> Vec<Vec<u8>> {

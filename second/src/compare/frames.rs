@@ -3,8 +3,8 @@
 use crate::addresses;
 use crate::coverage::{JUST_ENOUGH, SHORT_BY_ONE};
 use crate::lines::{self, Output};
-use crate::random::Random;
 use second::frame::{address_bytes, Header, HOP_COUNT_MAX, NONCES, TAG_TYPE};
+use second::random::Random;
 
 /// A frame's length: mostly short, some at both edges.
 pub fn length(r: &mut Random, least: usize, most: usize) -> usize {

@@ -3,9 +3,9 @@
 use crate::addresses::{self, GROUP};
 use crate::frames;
 use crate::lines::{self, Output};
-use crate::random::Random;
 use second::filter::{cell_number, Triple, CELL};
 use second::frame::{address_bytes, Header, HOP_COUNT_MAX, NONCES, TAG_TYPE};
+use second::random::Random;
 use second::step::Switch;
 use second::table::{Slot, Table, SLOTS};
 

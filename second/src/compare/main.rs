@@ -11,12 +11,11 @@ mod lines;
 mod networks;
 mod options;
 mod process;
-mod random;
 mod runs;
 
 use coverage::Coverage;
 use options::Options;
-use random::Random;
+use second::random::Random;
 use std::io::Write;
 use std::time::{Duration, Instant};
 

@@ -2,9 +2,9 @@
 //! networks with something wrong.
 
 use crate::addresses::{self, BEYOND, GROUP};
-use crate::random::Random;
 use second::description::{End, HostRecord, LinkRecord, Network, SwitchRecord};
 use second::description::{HOSTS_MAX, LINKS_MAX, SWITCHES_MAX};
+use second::random::Random;
 
 /// A network in the making: which ports are free.
 struct Plan {
@@ -226,7 +226,7 @@ pub fn litter(r: &mut Random, network: &mut Network) {
     for host in network.hosts.iter_mut().skip(counts[1]) {
         if r.flag() {
             let end = End { switch: r.below(3) as u8, port: r.below(9) as u8 };
-            *host = HostRecord { end, address: r.next() };
+            *host = HostRecord { end, address: r.draw() };
         }
     }
     for link in network.links.iter_mut().skip(counts[2]) {

@@ -1,6 +1,7 @@
 //! The options of `compare`.
 
 use crate::{Kind, Widths, KINDS};
+use second::{gate, places, random};
 use std::path::PathBuf;
 
 pub const USAGE: &str = "\
@@ -11,8 +12,8 @@ usage: compare --other 'COMMAND ...' [options]
   --other-vectors COMMAND  how it answers vectors (default: COMMAND vectors)
   --second PATH            run this second program (default: in this process)
   --self                   the other program is the second program beside this one
-  --seed N                 (default 1)
-  --count K                how many items (default 450000)
+  --seed N|fresh           fresh takes one from the clock (default: the gate's)
+  --count K                how many items (default: the gate's)
   --only N                 this item alone
   --show N                 print this item's input and nothing else
   --without KIND           leave out a kind: step tag strip read write fresh event run bench
@@ -20,10 +21,8 @@ usage: compare --other 'COMMAND ...' [options]
   --counter-bits 32|64     how large counters may be (default 64)
   --batch N                vectors for each start of a program (default 2000)
   --timeout SECONDS        for each start (default 120)
-  --out FOLDER             where a difference is written (default difference)
+  --out FOLDER             where a difference is written (default: difference, in cargo's folder)
 exit: 0 no difference, 1 a difference, 2 something did not occur, 3 other trouble";
-
-const DEFAULT_COUNT: u64 = 450_000;
 
 pub struct Options {
     pub other: String,
@@ -46,20 +45,20 @@ impl Options {
             other: String::new(),
             other_vectors: String::new(),
             second: None,
-            seed: 1,
-            count: DEFAULT_COUNT,
+            seed: gate::SEED,
+            count: gate::COUNT,
             only: None,
             show: None,
             without: Vec::new(),
             widths: Widths { counter: u64::MAX, by_port: false },
             batch: 2_000,
             timeout: 120,
-            out: PathBuf::from("difference"),
+            out: places::folder("difference")?,
         };
         let mut arguments = std::env::args().skip(1);
         while let Some(name) = arguments.next() {
             if name == "--self" {
-                options.other = beside()?;
+                options.other = places::beside("second")?.to_string_lossy().into_owned();
                 continue;
             }
             let value = arguments.next().ok_or(format!("{name} has no value"))?;
@@ -80,7 +79,7 @@ impl Options {
             "--other" => self.other = value,
             "--other-vectors" => self.other_vectors = value,
             "--second" => self.second = Some(value),
-            "--seed" => self.seed = number()?,
+            "--seed" => self.seed = random::seed(&value)?,
             "--count" => self.count = number()?,
             "--only" => self.only = Some(number()?),
             "--show" => self.show = Some(number()?),
@@ -109,10 +108,4 @@ impl Options {
         }
         Ok(())
     }
-}
-
-/// The second program in the folder of this one.
-fn beside() -> Result<String, String> {
-    let here = std::env::current_exe().map_err(|error| error.to_string())?;
-    Ok(here.with_file_name("second").to_string_lossy().into_owned())
 }

@@ -4,10 +4,10 @@
 use crate::addresses;
 use crate::descriptions;
 use crate::networks;
-use crate::random::Random;
 use second::bench::{Bench, Counters, Event};
 use second::description::INPUT_MAX;
 use second::frame::address_bytes;
+use second::random::Random;
 
 /// How the events of a run are chosen.
 pub struct Habit {

@@ -1,6 +1,8 @@
 //! Numbers that follow from a seed alone.
 
-/// An xorshift generator. Each item has its own, from the seed and the item's
+use std::time::{SystemTime, UNIX_EPOCH};
+
+/// An xorshift generator. Each item or run has its own, from the seed and its
 /// number, so that it can be made again alone.
 pub struct Random(u64);
 
@@ -10,7 +12,7 @@ impl Random {
         Random(mixed | 1)
     }
 
-    pub fn next(&mut self) -> u64 {
+    pub fn draw(&mut self) -> u64 {
         self.0 ^= self.0 >> 12;
         self.0 ^= self.0 << 25;
         self.0 ^= self.0 >> 27;
@@ -18,11 +20,11 @@ impl Random {
     }
 
     pub fn byte(&mut self) -> u8 {
-        (self.next() >> 56) as u8
+        (self.draw() >> 56) as u8
     }
 
     pub fn word(&mut self) -> u32 {
-        (self.next() >> 32) as u32
+        (self.draw() >> 32) as u32
     }
 
     pub fn flag(&mut self) -> bool {
@@ -31,7 +33,7 @@ impl Random {
 
     /// Below a number that is not 0.
     pub fn below(&mut self, number: usize) -> usize {
-        ((self.next() >> 16) % number as u64) as usize
+        ((self.draw() >> 16) % number as u64) as usize
     }
 
     /// From one number to another, both included.
@@ -60,4 +62,14 @@ fn scatter(number: u64) -> u64 {
     z = (z ^ (z >> 30)).wrapping_mul(0xBF58_476D_1CE4_E5B9);
     z = (z ^ (z >> 27)).wrapping_mul(0x94D0_49BB_1331_11EB);
     z ^ (z >> 31)
+}
+
+/// A seed as an option gives it: a number, or `fresh` for one from the clock.
+/// Whoever takes it prints it, so that the run can be repeated.
+pub fn seed(text: &str) -> Result<u64, String> {
+    if text != "fresh" {
+        return text.parse().map_err(|_| format!("the seed is a number or fresh, not {text}"));
+    }
+    let since = SystemTime::now().duration_since(UNIX_EPOCH);
+    Ok(since.map_or(1, |since| since.as_nanos() as u64 % 1_000_000_000_000))
 }
