@@ -226,6 +226,16 @@ impl Bench {
         if !self.is_in_shape() || !counters.is_in_shape(self.copy_count) {
             return Err(refusal::OUT_OF_SHAPE);
         }
+        self.event_in_shape(counters, event)
+    }
+
+    /// The same without 34 and 28, for a bench and counters that fewer events
+    /// than are allowed have led to from a fresh one: these are in shape.
+    pub fn event_in_shape(
+        &mut self,
+        counters: &mut Counters,
+        event: Event,
+    ) -> Result<Report, Refusal> {
         let report = match event {
             Event::Host { host, destination } => self.host(host, address_from(&destination))?,
             Event::Take { place } => self.take(place)?,

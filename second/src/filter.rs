@@ -2,6 +2,7 @@
 //! all zeros, or source 6, nonce 3 (high byte first), L as 0 or 1.
 
 use crate::frame::{address_bytes, address_from, is_source};
+use std::ops::Range;
 
 pub const CELL: usize = 10;
 pub const CELLS_MIN: usize = 16;
@@ -35,20 +36,23 @@ pub fn cell_number(salt: u32, triple: Triple, cells: usize) -> usize {
     hash as usize % cells
 }
 
-fn cell(filter: &mut [u8], salt: u32, triple: Triple) -> &mut [u8] {
-    let start = cell_number(salt, triple, filter.len() / CELL) * CELL;
-    &mut filter[start..start + CELL]
+/// The bytes of a triple's cell.
+fn cell(length: usize, salt: u32, triple: Triple) -> Range<usize> {
+    let start = cell_number(salt, triple, length / CELL) * CELL;
+    start..start + CELL
 }
 
 /// A triple is a duplicate when its cell holds exactly it.
-pub fn is_duplicate(filter: &mut [u8], salt: u32, triple: Triple) -> bool {
-    *cell(filter, salt, triple) == triple.to_bytes()
+pub fn is_duplicate(filter: &[u8], salt: u32, triple: Triple) -> bool {
+    let cell = &filter[cell(filter.len(), salt, triple)];
+    *cell == triple.to_bytes()
 }
 
 /// Overwrites the triple's cell. Answers whether another triple was replaced.
 #[must_use]
 pub fn record(filter: &mut [u8], salt: u32, triple: Triple) -> bool {
-    let cell = cell(filter, salt, triple);
+    let place = cell(filter.len(), salt, triple);
+    let cell = &mut filter[place];
     let new = triple.to_bytes();
     let overwrote = *cell != [0; CELL] && *cell != new;
     cell.copy_from_slice(&new);

@@ -14,17 +14,22 @@
 //!
 //! * `gate`: the seed and the count of the gate's run of `compare`
 //! * `places`: where the tools find each other and what they write
-//! * `random`: numbers from a seed
+//! * `random`, `addresses`, `plan`, `stands`, `traffic`: numbers from a seed,
+//!   and addresses, networks and events from these
 
+pub mod addresses;
 pub mod bench;
 pub mod description;
 pub mod filter;
 pub mod frame;
 pub mod gate;
 pub mod places;
+pub mod plan;
 pub mod random;
 pub mod refusal;
+pub mod stands;
 pub mod step;
 pub mod table;
+pub mod traffic;
 pub mod transcript;
 pub mod vectors;

@@ -67,6 +67,15 @@ impl Event {
             Event::Link { .. } => 'K',
         }
     }
+
+    /// The record that `event_at` reads.
+    pub fn record(self) -> Vec<u8> {
+        match self {
+            Event::Host { host, destination } => [&[0, 8, 4, host], &destination[..]].concat(),
+            Event::Take { place } => [[0, 3, 5].as_slice(), &place.to_be_bytes()].concat(),
+            Event::Link { link, state } => vec![0, 3, 6, link, state],
+        }
+    }
 }
 
 /// Number, letter, refusal or 0, verdict, hosts that received, copies in

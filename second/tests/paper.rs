@@ -67,7 +67,7 @@ impl Head {
     }
 
     fn holds(&mut self, l: bool) -> bool {
-        filter::is_duplicate(&mut self.filter, 1, Triple { source: A, nonce: 0, l })
+        filter::is_duplicate(&self.filter, 1, Triple { source: A, nonce: 0, l })
     }
 
     fn filter_is_empty(&self) -> bool {

@@ -137,7 +137,7 @@ fn r08_a_triple_may_stand_in_another_cell() {
     let other = (own + 1) % 16 * 10;
     filter[other..other + 10].copy_from_slice(&triple.to_bytes());
     assert!(filter::is_well_formed(&filter));
-    assert!(!filter::is_duplicate(&mut filter, 1, triple));
+    assert!(!filter::is_duplicate(&filter, 1, triple));
 }
 
 #[test]

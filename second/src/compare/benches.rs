@@ -1,16 +1,17 @@
 //! Benches handed in whole, in shape and out of it, and one event on them.
 
-use crate::addresses::{self, BEYOND};
 use crate::heads;
 use crate::lines;
 use crate::networks;
-use crate::runs::{self, Habit};
 use crate::Widths;
+use second::addresses::{self, BEYOND};
 use second::bench::{Bench, CopyInFlight, Counters, Event, COPIES_MAX, EVENTS_MAX};
 use second::description::{End, Network};
 use second::filter::Triple;
 use second::frame::{Header, NONCES};
 use second::random::Random;
+use second::stands;
+use second::traffic::{self, Habit};
 
 pub fn write_vector(r: &mut Random, labels: &mut Vec<&'static str>) -> String {
     let network = network_value(r, labels, 60);
@@ -27,7 +28,7 @@ pub fn fresh_vector(r: &mut Random, labels: &mut Vec<&'static str>) -> String {
 /// A network value, damaged with some chance.
 fn network_value(r: &mut Random, labels: &mut Vec<&'static str>, damaged: usize) -> Network {
     let mut network =
-        if r.chance(4) { networks::overfull(r) } else { networks::network(r, labels) };
+        if r.chance(4) { networks::overfull(r) } else { stands::network(r, labels) };
     if r.flag() {
         networks::litter(r, &mut network);
     }
@@ -43,12 +44,12 @@ pub fn event_vector(r: &mut Random, labels: &mut Vec<&'static str>, widths: Widt
     let (mut bench, mut counters) =
         if r.chance(35) { reached(r, labels) } else { made_up(r, labels) };
     let event = if r.chance(10) {
-        runs::bad_event(r, &bench)
+        traffic::bad_event(r, &bench)
     } else if r.chance(50) && bench.copy_count > 0 {
         Event::Take { place: r.below(bench.copy_count.into()) as u16 }
     } else {
         let habit = Habit::new(r);
-        runs::event(r, &bench, &habit)
+        traffic::event(r, &bench, &habit)
     };
     if r.chance(50) {
         litter(r, &mut bench);
@@ -73,17 +74,17 @@ pub fn event_vector(r: &mut Random, labels: &mut Vec<&'static str>, widths: Widt
 
 /// A bench that events have led to.
 fn reached(r: &mut Random, labels: &mut Vec<&'static str>) -> (Box<Bench>, Counters) {
-    let network = networks::network(r, labels);
+    let network = stands::network(r, labels);
     let mut bench = Bench::fresh(&network).expect("a network that the writer accepts");
     let mut counters = Counters::default();
     let events = r.pick(&[0, 3, 10, 30, 80, 200]);
-    runs::advance(r, &mut bench, &mut counters, events);
+    traffic::advance(r, &mut bench, &mut counters, events);
     (bench, counters)
 }
 
 /// A bench in shape that events need not lead to.
 fn made_up(r: &mut Random, labels: &mut Vec<&'static str>) -> (Box<Bench>, Counters) {
-    let network = networks::busy(r, labels);
+    let network = stands::busy(r, labels);
     let mut bench = Bench::fresh(&network).expect("a network that the writer accepts");
     let down = r.pick(&[0, 0, 20, 60]);
     for link in 0..network.links().len() {

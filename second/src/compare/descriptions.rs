@@ -1,10 +1,10 @@
 //! Descriptions as bytes, valid and damaged.
 
 use crate::networks;
-use second::bench::Event;
 use second::description::{Network, HOST, LINK, SWITCH};
 use second::frame::address_bytes;
 use second::random::Random;
+use second::stands;
 
 /// Records one by one, without any check.
 pub fn records(network: &Network) -> Vec<Vec<u8>> {
@@ -24,21 +24,6 @@ pub fn records(network: &Network) -> Vec<Vec<u8>> {
         records.push(vec![0, 5, LINK, a.switch, a.port, b.switch, b.port]);
     }
     records
-}
-
-pub fn event_record(event: Event) -> Vec<u8> {
-    match event {
-        Event::Host { host, destination } => {
-            let mut record = vec![0, 8, 4, host];
-            record.extend(destination);
-            record
-        }
-        Event::Take { place } => {
-            let [high, low] = place.to_be_bytes();
-            vec![0, 3, 5, high, low]
-        }
-        Event::Link { link, state } => vec![0, 3, 6, link, state],
-    }
 }
 
 fn joined(version: u8, records: &[Vec<u8>]) -> Vec<u8> {
@@ -62,7 +47,7 @@ pub fn damaged(r: &mut Random, network: &Network) -> Vec<u8> {
             bytes
         }
         4 => {
-            let mut records = records(&networks::largest(r));
+            let mut records = records(&stands::largest(r));
             one_more(r, &mut records);
             joined(1, &records)
         }
@@ -182,7 +167,7 @@ fn one_more(r: &mut Random, records: &mut Vec<Vec<u8>>) {
 
 /// Input for the reader: BYTES, and zeros behind them.
 pub fn input(r: &mut Random, labels: &mut Vec<&'static str>) -> (Vec<u8>, usize) {
-    let network = networks::network(r, labels);
+    let network = stands::network(r, labels);
     let mut bytes = if r.chance(35) { valid(&network) } else { damaged(r, &network) };
     if r.chance(30) {
         bytes.extend(tail(r));

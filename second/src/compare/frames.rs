@@ -1,8 +1,8 @@
 //! Frames, and the vectors of tagging and stripping.
 
-use crate::addresses;
 use crate::coverage::{JUST_ENOUGH, SHORT_BY_ONE};
 use crate::lines::{self, Output};
+use second::addresses;
 use second::frame::{address_bytes, Header, HOP_COUNT_MAX, NONCES, TAG_TYPE};
 use second::random::Random;
 

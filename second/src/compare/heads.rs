@@ -1,8 +1,8 @@
 //! Switches with tables and filters, and the vectors of one step.
 
-use crate::addresses::{self, GROUP};
 use crate::frames;
 use crate::lines::{self, Output};
+use second::addresses::{self, GROUP};
 use second::filter::{cell_number, Triple, CELL};
 use second::frame::{address_bytes, Header, HOP_COUNT_MAX, NONCES, TAG_TYPE};
 use second::random::Random;

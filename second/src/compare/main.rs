@@ -1,7 +1,6 @@
 //! `compare`: makes inputs from a seed, hands them to this package's second
 //! program and to another program, and looks for the first difference.
 
-mod addresses;
 mod benches;
 mod coverage;
 mod descriptions;

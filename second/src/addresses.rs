@@ -1,12 +1,19 @@
 //! Addresses: few, so that they meet again, and some at the edges.
 
-use second::random::Random;
+use crate::random::Random;
 
 pub const GROUP: u64 = 1 << 40;
 pub const BEYOND: u64 = 1 << 48;
 
+/// Hosts that are numbered through begin here.
+pub const FIRST_HOST: u64 = 0x0200_0000_0001;
+
+/// An address that no host has.
+pub const UNKNOWN: u64 = 0x0200_0000_FFFF;
+pub const EVERYBODY: u64 = 0xFFFF_FFFF_FFFF;
+
 pub const POOL: [u64; 8] = [
-    0x0200_0000_0001,
+    FIRST_HOST,
     0x0200_0000_0002,
     0x0200_0000_0003,
     0x0200_0000_0101,
@@ -33,7 +40,7 @@ pub fn any_source(r: &mut Random) -> u64 {
 pub fn destination(r: &mut Random) -> u64 {
     match r.below(20) {
         0 => 0,
-        1 => 0xFFFF_FFFF_FFFF,
+        1 => EVERYBODY,
         2 => r.pick(&POOL) | GROUP,
         3 => any_source(r),
         _ => r.pick(&POOL),
