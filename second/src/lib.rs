@@ -12,6 +12,7 @@
 //!
 //! What its tools share:
 //!
+//! * `demand3`: a judge of runs, by the premises and claims of demand 3
 //! * `gate`: the seed and the count of the gate's run of `compare`
 //! * `places`: where the tools find each other and what they write
 //! * `random`, `addresses`, `plan`, `stands`, `traffic`: numbers from a seed,
@@ -19,6 +20,7 @@
 
 pub mod addresses;
 pub mod bench;
+pub mod demand3;
 pub mod description;
 pub mod filter;
 pub mod frame;
