@@ -204,7 +204,10 @@ fn damage_seat(r: &mut Random, bench: &mut Bench) {
     let switch = &mut seat.switch;
     match r.below(12) {
         0 => switch.ports = r.pick(&[0, switch.ports ^ 1, switch.ports + 1, 17]),
-        1 => switch.limit = r.pick(&[0, 63, switch.limit ^ 1, switch.limit + 1]),
+        1 => {
+            let (less, more) = (switch.limit.saturating_sub(1), switch.limit + 1);
+            switch.limit = r.pick(&[0, 63, less, less, more, more]);
+        }
         2 => {
             let any = r.below(32);
             switch.salt ^= 1 << r.pick(&[0, 31, any]);

@@ -29,6 +29,7 @@ impl Workshop {
     pub fn build(&self) -> Result<(), String> {
         let output = run(Command::new("cargo")
             .args(["build", "--release", "--offline", "--quiet", "-j1", "--bin", "second"])
+            .env("CARGO_INCREMENTAL", "1")
             .arg("--manifest-path")
             .arg(self.folder.join("Cargo.toml"))
             .arg("--target-dir")
