@@ -63,17 +63,7 @@ pub fn event(r: &mut Random, bench: &Bench, habit: &Habit) -> Event {
         return bad_event(r, bench);
     }
     if choice < send {
-        let talking = hosts.len().min(habit.talking);
-        let host = r.below(talking);
-        // To itself now and then.
-        let itself = talking == 1 || r.chance(8);
-        let other = if itself { host } else { (host + r.between(1, talking - 1)) % talking };
-        let destination = if r.chance(habit.known) {
-            hosts[other].address
-        } else {
-            addresses::destination(r).max(1)
-        };
-        return Event::Host { host: host as u8, destination: address_bytes(destination) };
+        return host_event(r, bench, habit);
     }
     if choice < send + take {
         let place = match habit.taking {
@@ -87,6 +77,21 @@ pub fn event(r: &mut Random, bench: &Bench, habit: &Habit) -> Event {
     // Mostly a change, and mostly back up again.
     let state = if r.chance(15) { r.below(2) as u8 } else { !bench.up[link] as u8 };
     Event::Link { link: link as u8, state }
+}
+
+/// One of those who talk sends to another, to itself now and then.
+fn host_event(r: &mut Random, bench: &Bench, habit: &Habit) -> Event {
+    let hosts = bench.network.hosts();
+    let talking = hosts.len().min(habit.talking);
+    let host = r.below(talking);
+    let itself = talking == 1 || r.chance(8);
+    let other = if itself { host } else { (host + r.between(1, talking - 1)) % talking };
+    let destination = if r.chance(habit.known) {
+        hosts[other].address
+    } else {
+        addresses::destination(r).max(1)
+    };
+    Event::Host { host: host as u8, destination: address_bytes(destination) }
 }
 
 /// An event that is refused for its own causes, most times.
