@@ -2,11 +2,13 @@
 
 use std::f64::consts::TAU;
 use std::fmt::Write as _;
-use std::io::{ErrorKind, Write};
-use std::process::{Command, Stdio};
+use std::io::{Error, ErrorKind};
+use std::process::Command;
 
 use crate::failure::Failure;
 use crate::geometry::{crosses, middle, Point};
+use crate::output::Progress;
+use crate::process;
 use crate::stand::Stand;
 
 /// How large things are drawn, in pixels.
@@ -148,7 +150,7 @@ impl Layout {
 }
 
 fn graphviz(graph: &str) -> Result<String, Failure> {
-    let failed = |error: std::io::Error| match error.kind() {
+    let failed = |error: Error| match error.kind() {
         ErrorKind::NotFound => Failure::Machine(
             "draw needs Graphviz, and there is no program dot here; \
              on Debian: apt-get install graphviz\n"
@@ -156,19 +158,10 @@ fn graphviz(graph: &str) -> Result<String, Failure> {
         ),
         _ => Failure::Machine(format!("Graphviz fails: {error}\n")),
     };
-    let mut child = Command::new("dot")
-        .args(["-Kneato", "-Tplain"])
-        .stdin(Stdio::piped())
-        .stdout(Stdio::piped())
-        .spawn()
+    let mut command = Command::new("dot");
+    command.args(["-Kneato", "-Tplain"]);
+    let ended = process::feed("dot", &mut command, graph.as_bytes(), Progress::new())
         .map_err(failed)?;
-    // It reads its whole input before it prints.
-    child
-        .stdin
-        .take()
-        .map_or(Ok(()), |mut stdin| stdin.write_all(graph.as_bytes()))
-        .map_err(failed)?;
-    let ended = child.wait_with_output().map_err(failed)?;
     if !ended.status.success() {
         return Err(Failure::Machine(format!("Graphviz ends with {}\n", ended.status)));
     }

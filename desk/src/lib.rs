@@ -14,6 +14,7 @@ pub mod mistake;
 pub mod naming;
 pub mod numbering;
 pub mod output;
+pub mod process;
 pub mod proved;
 pub mod refusal;
 pub mod resolve;

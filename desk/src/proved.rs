@@ -3,17 +3,14 @@
 
 use std::env;
 use std::fmt::Write as _;
-use std::io::{self, Write};
 use std::path::PathBuf;
-use std::process::{Command, Output, Stdio};
-use std::sync::mpsc::{self, Receiver, RecvTimeoutError};
-use std::thread;
-use std::time::{Duration, Instant};
+use std::process::Command;
 
 use crate::answer::{self, Answer, Transcript};
 use crate::bytes::Description;
 use crate::failure::Failure;
 use crate::output::{self, Progress};
+use crate::process;
 
 /// Where the project stands; the script `stand` sets it.
 pub const ROOT: &str = "STAND_ROOT";
@@ -55,7 +52,7 @@ impl Proved {
     }
 
     /// The first record, from 0, at whose end the proved reader refuses the description.
-    /// Descriptions of more records than this many are refused within the first ones.
+    /// It is among the first 128: no more than 112 are ever accepted.
     pub fn faulty(&self, description: &Description) -> Result<Option<usize>, Failure> {
         const MANY: usize = 128;
         let mut lines = String::new();
@@ -63,11 +60,10 @@ impl Proved {
             let _ = writeln!(lines, "read {} 0", hex(&description.bytes[..*end]));
         }
         let answers = self.start("vectors", lines.as_bytes())?;
-        let verdicts = answers.lines().filter(|line| {
-            let word = line.split(' ').next();
-            word == Some("read") || word == Some("refused")
-        });
-        Ok(verdicts.into_iter().position(|line| line.starts_with("refused")))
+        let mut verdicts = answers
+            .lines()
+            .filter(|line| line.starts_with("read ") || line.starts_with("refused "));
+        Ok(verdicts.position(|line| line.starts_with("refused ")))
     }
 
     fn start(&self, name: &str, input: &[u8]) -> Result<String, Failure> {
@@ -80,8 +76,9 @@ impl Proved {
             ));
         }
         let failed = |why: String| Failure::Machine(format!("./run {name} failed: {why}\n"));
-        let ended =
-            self.feed(name, input, progress).map_err(|error| failed(error.to_string()))?;
+        let mut command = Command::new(self.root.join("run"));
+        let ended = process::feed(name, command.arg(name), input, progress)
+            .map_err(|error| failed(error.to_string()))?;
         if !ended.status.success() {
             return Err(failed(format!(
                 "{}; is the Rattle kit's rt on the path?",
@@ -89,35 +86,6 @@ impl Proved {
             )));
         }
         String::from_utf8(ended.stdout).map_err(|_| failed("it printed no text".to_string()))
-    }
-
-    /// The input is written beside the reading, for neither shall wait for the other.
-    fn feed(&self, name: &str, input: &[u8], progress: Progress) -> io::Result<Output> {
-        let mut child = Command::new(self.root.join("run"))
-            .arg(name)
-            .stdin(Stdio::piped())
-            .stdout(Stdio::piped())
-            .spawn()?;
-        let stdin = child.stdin.take();
-        let (running, ended) = mpsc::channel();
-        thread::scope(|scope| {
-            scope.spawn(move || {
-                // A program that ends before it has read all says why by its status.
-                let _ = stdin.map(|mut stdin| stdin.write_all(input));
-            });
-            scope.spawn(move || tick(name, progress, &ended));
-            let output = child.wait_with_output();
-            drop(running);
-            output
-        })
-    }
-}
-
-/// Shows how long the program has been running, until it has ended.
-fn tick(name: &str, mut progress: Progress, ended: &Receiver<()>) {
-    let start = Instant::now();
-    while ended.recv_timeout(Duration::from_secs(1)) == Err(RecvTimeoutError::Timeout) {
-        progress.show(&format!("{name} has been running for {} s", start.elapsed().as_secs()));
     }
 }
 

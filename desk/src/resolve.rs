@@ -31,6 +31,9 @@ impl From<Failure> for Unresolved {
     }
 }
 
+/// No input holds more takes than this.
+const MOST_TAKES: usize = bytes::MOST / 5;
+
 /// When one copy is left, about every ninth place that is drawn is its own; mostly there
 /// are more.
 const DRAWS: usize = 6;
@@ -161,7 +164,7 @@ impl<'a> Settled<'a> {
                 self.guess = self.least_guess.max(self.needed()).max(self.guess * 7 / 8);
                 self.next();
             } else if trial.get(at + 1).is_none_or(|next| next.order > tried.order) {
-                self.guess *= 2;
+                self.guess = (2 * self.guess).min(MOST_TAKES);
                 return;
             }
         }
@@ -282,10 +285,14 @@ mod tests {
     fn more_than_one_input_holds_is_told_with_its_line() {
         let before = |events: Result<Events, Unresolved>| match events {
             Err(Unresolved::TooLong { line, before }) => (line, before),
-            other => panic!("{other:?}"),
+            Err(other) => panic!("{other:?}"),
+            Ok(events) => panic!("{} events fit", events.len()),
         };
         let (line, count) = before(resolved(&"take 0\n".repeat(13_000)).0);
         assert_eq!((line, count), (11_995 + 3, 11_995));
+        let filled = "take 0\n".repeat(11_985) + "send A to A\ntake shuffled 3\n";
+        let (line, count) = before(resolved(&filled).0);
+        assert_eq!((line, count), (11_985 + 4, 11_994));
         let (line, _) = before(resolved(&"send A to A\ntake all\n".repeat(6_000)).0);
         assert!(line > 1_000 && line < 12_000, "{line}");
     }
