@@ -210,10 +210,13 @@ impl Watch {
         others.into_iter().any(wrong).then_some(Claim::OneCopyEach)
     }
 
-    /// What a state of the run is, as far as events to come and claims go.
+    /// All that the watch knows of the run so far, in one start's runs.
     pub fn key(&self) -> Vec<u8> {
-        let mut key: Vec<u8> = self.sent.iter().flat_map(|ports| ports.to_be_bytes()).collect();
+        let mut key = vec![self.sent_twice.into(), self.flying.into()];
+        key.extend(self.sent.iter().flat_map(|ports| ports.to_be_bytes()));
         key.extend(self.received.iter().map(|times| *times as u8));
+        key.extend(self.recorded.iter().flatten().map(|held| u8::from(*held)));
+        key.extend(self.broken.iter().map(|premise| *premise as u8));
         key
     }
 
