@@ -6,6 +6,6 @@ mod Keeping
 pub mod Causes
 pub mod Doors
 pub mod Laws
-mod Plain
+pub mod Plain
 mod Refusing
 mod Telling

@@ -9,6 +9,7 @@ use crate::token;
 use bench::Bench;
 use bench::Made;
 use cabling::End;
+use counters::Counted;
 use counters::Counters;
 use event::Address;
 use event::Event;
@@ -410,8 +411,14 @@ fn put_same(out: &mut [u8], to: usize, is_same: bool) -> usize {
     print::text(out, to, b"changed\n")
 }
 
+// The public event takes the counters lent; here they are lent, and handed back.
+pub(crate) fn happen(bench: Bench, e: Event, mut counters: Counters) -> Counted {
+    let happened = counters::event(bench, e, &mut counters);
+    Counted { happened, counters }
+}
+
 fn act(b: Bench, c: Counters, e: Event, out: &mut [u8], to: usize) -> usize {
-    let counted = counters::happens(b, e, c);
+    let counted = happen(b, e, c);
     let happened = counted.happened;
     let bench = happened.bench;
     let counters = counted.counters;

@@ -83,7 +83,7 @@ fn behind(at: usize, size: usize, end: usize) -> usize {
 fn happen(input: &[u8], r: Running, e: Event, out: &mut [u8]) -> Running {
     let b = r.bench;
     let c = r.counters;
-    let counted = counters::happens(b, e, c);
+    let counted = benches::happen(b, e, c);
     let happened = counted.happened;
     let bench = happened.bench;
     let counters = counted.counters;
