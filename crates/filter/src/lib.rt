@@ -172,14 +172,21 @@ fn six_at(filter: &[u8], at: usize) -> u64
     four_at(filter, at) * 0x1_0000 + two_at(filter, at + 4)
 }
 
-// Whether the cell from a place on is all zeros or holds a triple.
+// From here on a source's first byte isn't zero.
+const FIRST_BYTE: u64 = 0x100_0000_0000;
+
+// Whether the cell from a place on is all zeros or holds a triple. A first byte that isn't zero
+// tells most sources from zero, so that the others needn't be read.
 fn cell_fits(filter: &[u8], at: usize) -> bool
     requires { ⌜ at + width ≤ length (now filter) ⌝ }
     ensures { λ r. ⌜ r ≡ isCell (part at width (now (filter .entry))) ⌝ }
 {
     let source = six_at(filter, at);
-    if source == 0 {
-        return four_at(filter, at + 6) == 0;
+    if source < FIRST_BYTE {
+        if source == 0 {
+            return four_at(filter, at + 6) == 0;
+        }
+        return filter[at + 9] < 2;
     }
     if (source >> 40) % 2 == 1 {
         return false;
