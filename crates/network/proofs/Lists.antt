@@ -1,7 +1,7 @@
 -- Laws of an array's first places, and of a search in them.
 use Prim.Native.Nat.{ℕ, zero, suc, _+_, _<_, _≤_}
 use mathlib.Core.Path.{_≡_, refl, sym, ap, _∙_}
-use mathlib.Core.Bool.{Bool, true, false}
+use mathlib.Core.Bool.{Bool, true, false, _||_}
 use mathlib.Core.List.{List, [], _∷_, _++_}
 use native.Mathlib.Nat.{le-of-suc-le-suc, not-suc-le-zero}
 use native.Mathlib.Numerals.{add-one}
@@ -10,6 +10,14 @@ use lib.ListN.{length, getD, take, drop, set, length-set, drop-of-length-le}
 use lib.Seq.{drop-cons, take-suc-set}
 use Rattle.network.specs.Network.{upTo}
 use Rattle.network.specs.Checks.{any}
+
+pub or-same : (b : Bool) → (b || b) ≡ b
+or-same true = refl
+or-same false = refl
+
+or-none : (b : Bool) → (b || false) ≡ b
+or-none true = refl
+or-none false = refl
 
 module _ {A : Type 0} (unused : A) where
   pub upTo-long : (k : ℕ) (xs : List A) → length (upTo unused k xs) ≡ k
@@ -50,6 +58,20 @@ module _ {A : Type 0} (unused : A) where
   upTo-set k xs x h =
       rw (upTo-take (k + 1) (set xs k x) (rw (length-set xs k x) (omega arith)), upTo-take k xs (omega arith), add-one) (take-suc-set xs k x h)
 
+  -- of unused elements, one answers for all
+  any-unused : (test : A → Bool) (k : ℕ) → (test unused || any test (upTo unused k [])) ≡ test unused
+  unfolding upTo any
+  any-unused test zero = or-none (test unused)
+  any-unused test (suc k) = rw (any-unused test k) (or-same (test unused))
+
+  pub any-behind : (test : A → Bool) (k : ℕ) (xs : List A) (i : ℕ) → length xs ≤ i → i < k → any test (drop i (upTo unused k xs)) ≡ test unused
+  unfolding upTo any
+  any-behind test zero xs i l h = absurd (not-suc-le-zero h)
+  any-behind test (suc k) [] zero l h = any-unused test k
+  any-behind test (suc k) [] (suc i) l h = any-behind test k [] i (omega arith) (le-of-suc-le-suc h)
+  any-behind test (suc k) (x ∷ xs) zero l h = absurd (not-suc-le-zero l)
+  any-behind test (suc k) (x ∷ xs) (suc i) l h = any-behind test k xs i (le-of-suc-le-suc l) (le-of-suc-le-suc h)
+
   -- none of the first i of n elements passes the test
   pub record Sought (test : A → Bool) (n : ℕ) (xs : List A) (i : ℕ) : Type 0 where
     pub within : i ≤ n
@@ -70,6 +92,9 @@ module _ {A : Type 0} {unused : A} {test : A → Bool} {n : ℕ} {xs : List A} w
     pub sought-found : i < n → {x : A} → x ≡ getD xs i unused → test x ≡ true → true ≡ any test (upTo unused n xs)
     unfolding any
     sought-found h e q = sym (v .rest ∙ rw (here h e, q))
+
+    pub sought-behind : i < n → length xs ≤ i → {r : Bool} → r ≡ test unused → r ≡ any test (upTo unused n xs)
+    sought-behind h l e = e ∙ sym (v .rest ∙ any-behind unused test n xs i l h)
 
     pub sought-ends : n ≤ i → false ≡ any test (upTo unused n xs)
     unfolding any

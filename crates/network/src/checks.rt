@@ -1,7 +1,9 @@
 // The checks of one record, given the network that the records before it made.
 //
 // Each refusal number is one question, asked of every kind of record, and `fault` asks them in the
-// document's order. Arrays go in whole with a count: what a count leaves unused is never asked.
+// document's order. Arrays go in whole with a count: what a count leaves unused is never asked. A
+// search reads its array itself, since a function that is handed an array copies it; behind the
+// array's end all elements are zeros, and one answers for the rest.
 ghost use mathlib.Core.Path.{_≡_};
 ghost use Prim.Native.Nat.{_-_};
 ghost use Rattle.network.specs.Network.{add, noHost, noLink, noSwitch, upTo};
@@ -34,7 +36,11 @@ fn on_a_host(hosts: [Host; Network::HOSTS], n: u8, at: u64) -> bool
 {
     let mut i: u8 = 0;
     while i < n {
-        let h = nth_host(hosts, i as usize);
+        let k = i as usize;
+        if Network::HOSTS <= k {
+            return 0 == at;
+        }
+        let h = hosts[k];
         if place(h.port) == at {
             return true;
         }
@@ -49,7 +55,11 @@ fn has_address(hosts: [Host; Network::HOSTS], n: u8, address: u64) -> bool
 {
     let mut i: u8 = 0;
     while i < n {
-        let h = nth_host(hosts, i as usize);
+        let k = i as usize;
+        if Network::HOSTS <= k {
+            return 0 == address;
+        }
+        let h = hosts[k];
         if h.address == address {
             return true;
         }
@@ -73,7 +83,11 @@ fn on_a_link(links: [Link; Network::LINKS], n: u8, at: u64) -> bool
 {
     let mut i: u8 = 0;
     while i < n {
-        let l = nth_link(links, i as usize);
+        let k = i as usize;
+        if Network::LINKS <= k {
+            return 0 == at;
+        }
+        let l = links[k];
         if link_on(l, at) {
             return true;
         }

@@ -1,33 +1,41 @@
--- While nothing is found, the search of what is left has the answer.
-use Rattle.network.proofs.Lists.{Sought, sought-starts, sought-next, sought-found, sought-ends}
+-- While nothing is found, the search of what is left has the answer; behind the array's end one element has it for all.
+use Rattle.network.proofs.Lists.{Sought, sought-starts, sought-next, sought-found, sought-behind, sought-ends}
 use Rattle.network.specs.Network.{noHost}
 use Rattle.network.specs.Checks.{hasAddress}
 use Prim.Native.Nat.{_-_}
+use lib.ListN.{length}
 use native.Mathlib.Omega.{arith}
 use borrow.Author.Needs.{needs}
 use borrow.Author.Tests.{eq-eqb, ne-eqb}
+use mathlib.Core.Path.{_≡_, refl}
 use Rattle.network.proofs.checks.has_address.Statement.{statement}
 use Rattle.network.proofs.checks.has_address.Tie as tie
 
 abbrev Inv-loop : tie.InvT-loop
-Inv-loop hosts n address i₀ i = Sought noHost (hasAddress address) n hosts i
+Inv-loop n address hosts i₀ i = Sought noHost (hasAddress address) n hosts i
 
 abbrev μ-loop : tie.MeasureT-loop
-μ-loop hosts n address i₀ i = n - i
+μ-loop n address hosts i₀ i = n - i
 
 loop-holds : tie.Need-loop-holds Inv-loop μ-loop
 loop-holds c = sought-starts
 
-cast-nth-host : tie.Need-cast-nth-host Inv-loop μ-loop
-cast-nth-host c = search needs
-
-nth-host-requires : tie.Need-nth-host-requires Inv-loop μ-loop
-nth-host-requires c κs = search needs
+cast-k : tie.Need-cast-k Inv-loop μ-loop
+cast-k c = search needs
 
 returns : tie.Need-returns Inv-loop μ-loop
 returns c =
-    sought-found (c .before .before .before .before .loop .inv) (omega arith) (c .before .before .nth-host .ensures)
-    (eq-eqb _ _ (c .if1 .taken))
+    let long : length (c .before .before .before .args .t1) ≡ 32 = search needs in
+    sought-behind (c .before .before .loop .inv) (omega arith) (omega arith) refl
+
+mul-h : tie.Need-mul-h Inv-loop μ-loop
+mul-h c = search needs
+
+array-copy-out-h : tie.Need-array-copy-out-h Inv-loop μ-loop
+array-copy-out-h c = search needs
+
+returns-2 : tie.Need-returns-2 Inv-loop μ-loop
+returns-2 c = sought-found (c .before .before .before .before .before .loop .inv) (omega arith) refl (eq-eqb _ _ (c .if2 .taken))
 
 add-i : tie.Need-add-i Inv-loop μ-loop
 add-i c = search needs
@@ -36,12 +44,10 @@ loop-less : tie.Need-loop-less Inv-loop μ-loop
 loop-less c = search needs
 
 loop-again : tie.Need-loop-again Inv-loop μ-loop
-loop-again c =
-    sought-next (c .before .before .before .before .loop .inv) (omega arith) (c .before .before .nth-host .ensures)
-    (ne-eqb _ _ (c .if1 .left))
+loop-again c = sought-next (c .before .before .before .before .before .loop .inv) (omega arith) refl (ne-eqb _ _ (c .if2 .left))
 
-returns-2 : tie.Need-returns-2 Inv-loop μ-loop
-returns-2 c = sought-ends (c .before .loop .inv) (omega arith)
+returns-3 : tie.Need-returns-3 Inv-loop μ-loop
+returns-3 c = sought-ends (c .before .loop .inv) (omega arith)
 
 pub has-address-spec : {M : Type 1} → statement M
 has-address-spec =
@@ -50,10 +56,12 @@ has-address-spec =
     Inv-loop
     μ-loop
     loop-holds
-    cast-nth-host
-    nth-host-requires
+    cast-k
     returns
+    mul-h
+    array-copy-out-h
+    returns-2
     add-i
     loop-less
     loop-again
-    returns-2)
+    returns-3)
