@@ -9,7 +9,16 @@ use lib.ListN.{getD, length, take, drop, length-append}
 use lib.Seq.{take-all, take-suc, getD-take, getD-drop}
 use Rattle.network.specs.declared.Port.{Port}
 use Rattle.network.specs.Format.{portIn}
-use Rattle.layout.specs.Layout.{block, hostIn, hostsAt, inBlock, linkIn, linksAt, listed, switchIn, switchesAt}
+use Rattle.flight.specs.declared.Copy.{Copy}
+use Rattle.flight.specs.Flight.{unpack}
+use Rattle.frame.specs.Header.{bit}
+use mir.Val.{boolByte}
+use mathlib.Core.Bool.{Bool, true, false}
+use Rattle.table.specs.Table.{slots, tableOf}
+use Rattle.rules.specs.declared.Setup.{Setup}
+use Rattle.head.specs.Step.{switchOf}
+use Rattle.seat.specs.Seat.{cellBytes, seatOf}
+use Rattle.layout.specs.Layout.{block, cellsAt, copiesAt, copyIn, noncesAt, seatIn, setupIn, slotHopsAt, slotPortsAt, hostIn, hostsAt, inBlock, linkIn, linksAt, listed, switchIn, switchesAt}
 
 -- ---- Lists of values by number
 
@@ -34,6 +43,12 @@ module _ {A : Type 0} where
       first zero h = refl
       first (suc k) h = rw (first k (omega arith)) (sym (take-suc xs k d h))
 
+  -- what stands at a place that there is doesn't hang on what stands for the others
+  pub same-there : (xs : List A) (k : ℕ) (d e : A) → k < length xs → getD xs k d ≡ getD xs k e
+  same-there [] k d e h = absurd (omega arith)
+  same-there (x ∷ xs) zero d e h = refl
+  same-there (x ∷ xs) (suc k) d e h = same-there xs k d e (omega arith)
+
 -- ---- Blocks
 
 -- a number of a block stands in the array
@@ -54,10 +69,12 @@ port-first at w i l h = ap (λ k. portIn k l) (sym (add-zero (at + w * i))) ∙ 
 -- ---- Values as numbers, one behind the other
 
 -- so many of a width
-pub flat-length : {A : Type 0} (f : A → List ℕ) (w : ℕ) → ((x : A) → length (f x) ≡ w) → (xs : List A) → length (flatMap f xs) ≡ w * length xs
+pub flat-length : {A : Type 0} (f : A → List ℕ) (w : ℕ) (d : A) (xs : List A) → ((k : ℕ) → k < length xs → length (f (getD xs k d)) ≡ w)
+    → length (flatMap f xs) ≡ w * length xs
 unfolding flatMap
-flat-length f w h [] = sym (mul-zero w)
-flat-length f w h (x ∷ xs) = length-append (f x) (flatMap f xs) ∙ rw (h x, flat-length f w h xs, mul-suc) (add-comm w (w * length xs))
+flat-length f w d [] h = sym (mul-zero w)
+flat-length f w d (x ∷ xs) h =
+    length-append (f x) (flatMap f xs) ∙ rw (h 0 (omega arith), flat-length f w d xs (λ k l. h (suc k) (omega arith)), mul-suc) (add-comm w (w * length xs))
 
 -- ---- A network's parts
 
@@ -73,3 +90,38 @@ module _ (bytes others : List ℕ) (i : ℕ) where
 pub link-is : (bytes : List ℕ) (i : ℕ) {p q : Port} → p ≡ portIn (linksAt + 4 * i) bytes → q ≡ portIn (linksAt + 4 * i + 2) bytes → record { first = p; second = q } ≡ linkIn bytes i
 unfolding linkIn
 link-is bytes i e f = rw (e, f, port-first linksAt 4 i bytes (omega arith), port-in-block linksAt 4 i 2 bytes (omega arith))
+
+-- ---- A bench's parts
+
+-- three numbers in a row
+pub three-there : (l : List ℕ) (n : ℕ) → n + 3 ≤ length l → getD l n 0 ∷ getD l (n + 1) 0 ∷ getD l (n + 2) 0 ∷ [] ≡ take 3 (drop n l)
+three-there l n h = go n l h
+  where
+    go : (n : ℕ) (l : List ℕ) → n + 3 ≤ length l → getD l n 0 ∷ getD l (n + 1) 0 ∷ getD l (n + 2) 0 ∷ [] ≡ take 3 (drop n l)
+    go zero [] h = absurd (omega arith)
+    go zero (a ∷ []) h = absurd (omega arith)
+    go zero (a ∷ b ∷ []) h = absurd (omega arith)
+    go zero (a ∷ b ∷ c ∷ l) h = refl
+    go (suc n) [] h = absurd (omega arith)
+    go (suc n) (a ∷ l) h =
+        let one : suc n + 1 ≡ suc (n + 1) = omega arith in
+        let two : suc n + 2 ≡ suc (n + 2) = omega arith in
+        rw (one, two) (go n l (omega arith))
+
+pub seat-is : (bytes masks words wides : List ℕ) (k : ℕ) {setup : Setup} {addresses ports hops cells : List ℕ} → setup ≡ setupIn bytes masks words k
+    → addresses ≡ take slots (drop (slots * k) wides) → ports ≡ block slotPortsAt slots k bytes → hops ≡ block slotHopsAt slots k bytes → cells ≡ block cellsAt cellBytes k bytes
+    → seatOf (switchOf setup (getD words (noncesAt + k) 0) (tableOf addresses ports hops)) cells ≡ seatIn bytes masks words wides k
+unfolding seatIn
+seat-is bytes masks words wides k e a p h c =
+    let first : 0 + slots * k ≡ slots * k = omega arith in
+    rw (e, a, p, h, c, first)
+
+pub copy-is : (l : List ℕ) (i : ℕ) {c : Copy} → copiesAt + 3 * i + 3 ≤ length l
+    → c ≡ unpack (getD l (copiesAt + 3 * i) 0 ∷ getD l (copiesAt + 3 * i + 1) 0 ∷ getD l (copiesAt + 3 * i + 2) 0 ∷ []) → c ≡ copyIn l i
+unfolding copyIn
+copy-is l i h e = e ∙ ap unpack (three-there l (copiesAt + 3 * i) h)
+
+-- a state as a number
+pub state-byte : (b : Bool) → boolByte b ≡ bit b
+state-byte true = refl
+state-byte false = refl

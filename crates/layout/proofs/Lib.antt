@@ -1,3 +1,4 @@
 pub mod Laws
+pub mod Back
 mod Loops
 mod Wholes

@@ -9,13 +9,14 @@
 --            wides        2,561 u64  16 heads' tables' 64 addresses; 512 copies of three words; how many of them are in flight
 --
 -- `networkIn` and `benchIn` are what such arrays hold, `networkBytes` and so on what they are where a network or a bench was laid down.
-use Prim.Native.Nat.{ℕ, zero, suc, _+_, _*_}
+use Prim.Native.Nat.{ℕ, zero, suc, _+_, _*_, _<_}
 use mathlib.Core.Path.{_≡_}
 use mathlib.Core.Bool.{Bool, not, _&&_}
 use mathlib.Core.List.{List, [], _∷_, _++_, map, flatMap}
 use lib.Dec.{eqb}
 use lib.ListN.{getD, length, take, drop}
 use Rattle.frame.specs.Header.{bit}
+use Rattle.wire.specs.Wire.{put}
 use Rattle.network.specs.declared.Port.{Port}
 use Rattle.network.specs.declared.Switch.{Switch}
 use Rattle.network.specs.declared.Host.{Host}
@@ -29,9 +30,9 @@ use Rattle.head.specs.Step.{switchOf}
 use Rattle.seat.specs.declared.Seat.{Seat}
 use Rattle.seat.specs.Seat.{cellBytes, seatOf}
 use Rattle.flight.specs.declared.Copy.{Copy}
-use Rattle.flight.specs.Flight.{most, pack, unpack}
+use Rattle.flight.specs.Flight.{Ranged, most, noCopy, pack, unpack}
 use Rattle.bench.specs.declared.Bench.{Bench}
-use Rattle.bench.specs.Bench.{benchOf}
+use Rattle.bench.specs.Bench.{benchOf, noSeat}
 
 -- ---- Where the parts begin
 
@@ -101,6 +102,29 @@ pub record SizedNetwork (n : Network) : Type 0 where
   pub switches : length (n .switches) ≡ mostSwitches
   pub hosts : length (n .hosts) ≡ mostHosts
   pub links : length (n .links) ≡ mostLinks
+
+-- the heads of a bench, each with so many numbers of a kind
+pub record Evenly (f : Seat → List ℕ) (w : ℕ) (ss : List Seat) : Type 0 where
+  pub even : (k : ℕ) → k < mostSwitches → length (f (getD ss k noSeat)) ≡ w
+
+-- 16 heads with 64 slots and 64 cells each
+pub record SizedSeats (ss : List Seat) : Type 0 where
+  pub long : length ss ≡ mostSwitches
+  pub addresses : Evenly (λ s. s .switch .table .addresses) slots ss
+  pub ports : Evenly (λ s. s .switch .table .ports) slots ss
+  pub hops : Evenly (λ s. s .switch .table .hops) slots ss
+  pub cells : Evenly (λ s. s .cells) cellBytes ss
+
+-- 512 copies with numbers that their types hold
+pub record RangedCopies (cs : List Copy) : Type 0 where
+  pub long : length cs ≡ most
+  pub ranged : (i : ℕ) → i < most → Ranged (getD cs i noCopy)
+
+-- a bench whose arrays are as long as its type says, and whose copies' numbers are within theirs
+pub record SizedBench (b : Bench) : Type 0 where
+  pub up : length (b .up) ≡ mostLinks
+  pub seats : SizedSeats (b .seats)
+  pub copies : RangedCopies (b .copies)
 
 -- ---- What they hold
 
@@ -194,28 +218,42 @@ pub record LaidNetwork (n : Network) (b s a : List ℕ) : Type 0 where
   pub bytes : b ≡ networkBytes n
   pub salts : s ≡ networkSalts n
   pub addresses : a ≡ networkAddresses n
+  pub sized : SizedNetwork n
+
+-- the heads of a bench
+unfoldable pub seatBytes : List Seat → List ℕ
+seatBytes ss =
+    map (λ s. s .switch .setup .ports) ss
+    ++ (map (λ s. s .switch .setup .limit) ss
+    ++ (flatMap (λ s. s .switch .table .ports) ss ++ (flatMap (λ s. s .switch .table .hops) ss ++ flatMap (λ s. s .cells) ss)))
+
+unfoldable pub seatMasks : List Seat → List ℕ
+seatMasks ss = map (λ s. s .switch .setup .live) ss ++ map (λ s. s .switch .setup .host) ss
+
+unfoldable pub seatWords : List Seat → List ℕ
+seatWords ss = map (λ s. s .switch .setup .salt) ss ++ map (λ s. s .switch .nonce) ss
+
+unfoldable pub seatWides : List Seat → List ℕ
+seatWides ss = flatMap (λ s. s .switch .table .addresses) ss
+
+-- laid between what bytes and wides hold besides
+pub record LaidSeats (ss : List Seat) (bytes₀ wides₀ b m w v : List ℕ) : Type 0 where
+  pub bytes : b ≡ put bytes₀ portsAt (seatBytes ss)
+  pub masks : m ≡ seatMasks ss
+  pub words : w ≡ seatWords ss
+  pub wides : v ≡ put wides₀ 0 (seatWides ss)
+  pub sized : SizedSeats ss
 
 -- a bench
 unfoldable pub benchBytes : Bench → List ℕ
-benchBytes b =
-    map bit (b .up)
-    ++ (map (λ s. s .switch .setup .ports) (b .seats)
-    ++ (map (λ s. s .switch .setup .limit) (b .seats)
-    ++ (flatMap (λ s. s .switch .table .ports) (b .seats)
-    ++ (flatMap (λ s. s .switch .table .hops) (b .seats)
-    ++ flatMap (λ s. s .cells) (b .seats)))))
-
-unfoldable pub benchMasks : Bench → List ℕ
-benchMasks b = map (λ s. s .switch .setup .live) (b .seats) ++ map (λ s. s .switch .setup .host) (b .seats)
-
-unfoldable pub benchWords : Bench → List ℕ
-benchWords b = map (λ s. s .switch .setup .salt) (b .seats) ++ map (λ s. s .switch .nonce) (b .seats)
+benchBytes b = map bit (b .up) ++ seatBytes (b .seats)
 
 unfoldable pub benchWides : Bench → List ℕ
-benchWides b = flatMap (λ s. s .switch .table .addresses) (b .seats) ++ (flatMap pack (b .copies) ++ (b .flying ∷ []))
+benchWides b = seatWides (b .seats) ++ (flatMap pack (b .copies) ++ (b .flying ∷ []))
 
 pub record LaidBench (x : Bench) (b m w v : List ℕ) : Type 0 where
   pub bytes : b ≡ benchBytes x
-  pub masks : m ≡ benchMasks x
-  pub words : w ≡ benchWords x
+  pub masks : m ≡ seatMasks (x .seats)
+  pub words : w ≡ seatWords (x .seats)
   pub wides : v ≡ benchWides x
+  pub sized : SizedBench x

@@ -35,7 +35,7 @@ returns c =
     let start = c .before .before .before .before .before .before .before .before .before .before .before .before .before .before .before .before .before .before .before .before .before .before .before .before .before .before .before .before .before in
     let sized : SizedNetwork (start .args .n) = record { switches = c .before .before .before .before .before .before .before .before .before .before .before .before .before .before .before .before .before .lay-switches .ensures .1 .1; hosts = c .before .before .before .before .before .before .before .before .before .lay-hosts .ensures .1 .1; links = c .before .before .lay-links .ensures .1 } in
     let whole = network-laid (start .args .bytes .now) sized (start .pre .bytes) (c .before .before .before .before .before .before .before .before .before .before .before .before .before .before .before .before .before .before .before .before .before .before .before .put-at .ensures) (c .before .before .before .before .before .before .before .before .before .before .before .before .before .before .before .before .before .lay-switches .ensures .0) (c .before .before .before .before .before .before .before .before .before .lay-hosts .ensures .0) (c .before .before .lay-links .ensures .0) in
-    record { bytes = whole; salts = c .before .before .before .before .before .before .before .before .before .before .before .before .before .before .before .before .before .lay-switches .ensures .1 .0; addresses = c .before .before .before .before .before .before .before .before .before .lay-hosts .ensures .1 .0 }
+    record { bytes = whole; salts = c .before .before .before .before .before .before .before .before .before .before .before .before .before .before .before .before .before .lay-switches .ensures .1 .0; addresses = c .before .before .before .before .before .before .before .before .before .lay-hosts .ensures .1 .0; sized = sized }
 
 pub lay-network-spec : {M : Type 1} → statement M
 lay-network-spec =

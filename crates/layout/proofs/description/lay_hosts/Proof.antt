@@ -11,7 +11,7 @@ use Rattle.layout.proofs.description.lay_hosts.Statement.{statement}
 use Rattle.layout.proofs.description.lay_hosts.Tie as tie
 
 abbrev Inv-loop : tie.InvT-loop
-Inv-loop bytes₀ addresses₀ hosts i₀ bytes addresses i = (i ≤ 32) × Rows hostBytes 2 hosts bytes₀ hostsAt i bytes × Column (λ x. x .address) hosts addresses₀ 0 i addresses
+Inv-loop bytes₀ addresses₀ hosts i₀ bytes addresses i = (i ≤ 32) × Rows hostBytes 2 noHost hosts bytes₀ hostsAt i bytes × Column (λ x. x .address) noHost hosts addresses₀ 0 i addresses
 
 abbrev μ-loop : tie.MeasureT-loop
 μ-loop bytes₀ addresses₀ hosts i₀ bytes addresses i = 32 - i

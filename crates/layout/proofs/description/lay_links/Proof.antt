@@ -12,7 +12,7 @@ use Rattle.layout.proofs.description.lay_links.Statement.{statement}
 use Rattle.layout.proofs.description.lay_links.Tie as tie
 
 abbrev Inv-loop : tie.InvT-loop
-Inv-loop bytes₀ links i₀ bytes i = (i ≤ 64) × Rows linkBytes 4 links bytes₀ linksAt i bytes
+Inv-loop bytes₀ links i₀ bytes i = (i ≤ 64) × Rows linkBytes 4 noLink links bytes₀ linksAt i bytes
 
 abbrev μ-loop : tie.MeasureT-loop
 μ-loop bytes₀ links i₀ bytes i = 64 - i

@@ -11,7 +11,7 @@ use Rattle.layout.proofs.description.lay_switches.Statement.{statement}
 use Rattle.layout.proofs.description.lay_switches.Tie as tie
 
 abbrev Inv-loop : tie.InvT-loop
-Inv-loop bytes₀ salts₀ switches i₀ bytes salts i = (i ≤ 16) × Rows switchBytes 2 switches bytes₀ switchesAt i bytes × Column (λ x. x .salt) switches salts₀ 0 i salts
+Inv-loop bytes₀ salts₀ switches i₀ bytes salts i = (i ≤ 16) × Rows switchBytes 2 noSwitch switches bytes₀ switchesAt i bytes × Column (λ x. x .salt) noSwitch switches salts₀ 0 i salts
 
 abbrev μ-loop : tie.MeasureT-loop
 μ-loop bytes₀ salts₀ switches i₀ bytes salts i = 16 - i
