@@ -12,12 +12,11 @@ use Rattle.frame.specs.Header.{bit}
 use Rattle.network.specs.declared.Network.{Network}
 use Rattle.network.specs.Network.{noHost, noLink, noSwitch}
 use Rattle.seat.specs.declared.Seat.{Seat}
-use Rattle.flight.specs.declared.Copy.{Copy}
 use Rattle.flight.specs.Flight.{noCopy, pack, unpack}
 use Rattle.flight.proofs.Laws.{unpack-pack}
 use Rattle.bench.specs.declared.Bench.{Bench}
 use Rattle.bench.specs.Bench.{benchOf, noSeat}
-use Rattle.layout.specs.Layout.{Evenly, SizedBench, SizedNetwork, SizedSeats, benchBytes, benchIn, benchWides, block, cellsAt, copiesAt, copyIn, counts, flyingAt, hostBytes, hostIn, hostMasksAt, hostsAt, limitsAt, linkBytes, linkIn, linksAt, listed, networkAddresses, networkBytes, networkIn, networkSalts, noncesAt, portsAt, seatBytes, seatIn, seatMasks, seatWides, seatWords, setupIn, slotHopsAt, slotPortsAt, switchBytes, switchIn, switchesAt, upIn}
+use Rattle.layout.specs.Layout.{Evenly, SizedBench, SizedNetwork, benchBytes, benchIn, benchWides, block, cellsAt, copiesAt, copyIn, counts, flyingAt, hostBytes, hostIn, hostMasksAt, hostsAt, limitsAt, linkBytes, linkIn, linksAt, listed, networkAddresses, networkBytes, networkIn, networkSalts, noncesAt, portsAt, seatBytes, seatIn, seatMasks, seatWides, seatWords, setupIn, slotHopsAt, slotPortsAt, switchBytes, switchIn, switchesAt, upIn}
 use Rattle.layout.specs.RoundTrip.{BenchReadsBack, NetworkReadsBack}
 use Rattle.layout.proofs.Laws.{flat-length, listed-all, listed-same, same-there}
 use Rattle.layout.proofs.Wholes.{copies-length, even-length}

@@ -1,7 +1,7 @@
--- Laws of lists of values by number, and of blocks of numbers.
+-- Laws of the arrays' lengths, of lists of values by number, and of blocks of numbers.
 use Prim.Native.Nat.{ℕ, zero, suc, _+_, _*_, _<_, _≤_}
 use mathlib.Core.Path.{_≡_, refl, sym, ap, _∙_}
-use mathlib.Core.List.{List, [], _∷_, _++_, map, flatMap}
+use mathlib.Core.List.{List, [], _∷_, flatMap}
 use native.Mathlib.Nat.{add-assoc, add-comm, add-zero, mul-suc, mul-zero}
 use native.Mathlib.Omega.{arith}
 use native.Mathlib.Numerals.{add-one}
@@ -13,12 +13,30 @@ use Rattle.flight.specs.declared.Copy.{Copy}
 use Rattle.flight.specs.Flight.{unpack}
 use Rattle.frame.specs.Header.{bit}
 use mir.Val.{boolByte}
-use mathlib.Core.Bool.{Bool, true, false}
+use mathlib.Core.Bool.{Bool, true, false, _&&_, and-eq-true-iff}
+use lib.Dec.{eqb}
+use borrow.Author.Tests.{eqb-true}
 use Rattle.table.specs.Table.{slots, tableOf}
 use Rattle.rules.specs.declared.Setup.{Setup}
 use Rattle.head.specs.Step.{switchOf}
 use Rattle.seat.specs.Seat.{cellBytes, seatOf}
-use Rattle.layout.specs.Layout.{block, cellsAt, copiesAt, copyIn, noncesAt, seatIn, setupIn, slotHopsAt, slotPortsAt, hostIn, hostsAt, inBlock, linkIn, linksAt, listed, switchIn, switchesAt}
+use Rattle.layout.specs.Layout.{HoldsBench, HoldsNetwork, benchFits, block, cellsAt, copiesAt, copyIn, hostIn, hostsAt, inBlock, linkIn, linksAt, listed, networkFits, noncesAt, seatIn, setupIn, slotHopsAt, slotPortsAt, switchIn, switchesAt}
+
+-- ---- Lengths
+
+-- lengths that pass the test are those of arrays that can hold the value
+pub network-holds : (b s a : List ℕ) → networkFits (length b) (length s) (length a) ≡ true → HoldsNetwork b s a
+network-holds b s a e =
+    let (front, last) = and-eq-true-iff (eqb (length b) 355 && eqb (length s) 16) (eqb (length a) 32) .0 e in
+    let (one, two) = and-eq-true-iff (eqb (length b) 355) (eqb (length s) 16) .0 front in
+    record { bytes = eqb-true (length b) 355 one; salts = eqb-true (length s) 16 two; addresses = eqb-true (length a) 32 last }
+
+pub bench-holds : (b m w v : List ℕ) → benchFits (length b) (length m) (length w) (length v) ≡ true → HoldsBench b m w v
+bench-holds b m w v e =
+    let (front, last) = and-eq-true-iff (eqb (length b) 12384 && eqb (length m) 32 && eqb (length w) 32) (eqb (length v) 2561) .0 e in
+    let (two, three) = and-eq-true-iff (eqb (length b) 12384 && eqb (length m) 32) (eqb (length w) 32) .0 front in
+    let (one, second) = and-eq-true-iff (eqb (length b) 12384) (eqb (length m) 32) .0 two in
+    record { bytes = eqb-true (length b) 12384 one; masks = eqb-true (length m) 32 second; words = eqb-true (length w) 32 three; wides = eqb-true (length v) 2561 last }
 
 -- ---- Lists of values by number
 

@@ -1,12 +1,12 @@
 -- The loops' invariants, each a record over the values at the loop's head, with the laws that start it, carry it on and end it.
-use Prim.Native.Nat.{ℕ, zero, suc, _+_, _-_, _*_, _<_, _≤_}
+use Prim.Native.Nat.{ℕ, suc, _+_, _-_, _*_, _<_, _≤_}
 use mathlib.Core.Path.{_≡_, refl, sym, ap, _∙_}
 use mathlib.Core.List.{List, [], _∷_, _++_, map, flatMap, append-assoc, append-nil}
 use native.Mathlib.Nat.{mul-suc, mul-zero}
 use borrow.Author.Count.{below-more}
 use native.Mathlib.Omega.{arith}
 use native.Mathlib.Numerals.{add-one}
-use lib.ListN.{getD, length, take, drop, set, length-append, length-drop, length-take, take-append-drop, drop-of-length-le}
+use lib.ListN.{getD, length, take, drop, set, length-append, length-drop, length-take, drop-of-length-le}
 use lib.Seq.{append-snoc, drop-cons, paste-zero, set-at, set-split, take-all, take-suc}
 use Rattle.wire.specs.Wire.{put, putIn}
 use Rattle.wire.proofs.Laws.{put-fits, put-put}

@@ -1,9 +1,7 @@
 -- Whole arrays: their parts laid one behind the other.
 use Prim.Native.Nat.{ℕ, _+_, _*_}
-use mathlib.Core.Path.{_≡_, refl, sym, ap, _∙_}
-use mathlib.Core.Bool.{Bool}
+use mathlib.Core.Path.{_≡_, refl, ap, _∙_}
 use mathlib.Core.List.{List, [], _∷_, _++_, flatMap, map, append-assoc}
-use native.Mathlib.Nat.{mul-suc, mul-zero}
 use native.Mathlib.Omega.{arith}
 use lib.ListN.{length, length-append, length-map}
 use Rattle.wire.specs.Wire.{put, putIn}
@@ -15,12 +13,12 @@ use Rattle.layout.proofs.Loops.{Laying, laid-whole, laying-next, laying
 use Rattle.frame.specs.Header.{bit}
 use Rattle.seat.specs.declared.Seat.{Seat}
 use Rattle.flight.specs.declared.Copy.{Copy}
-use Rattle.flight.specs.Flight.{most, noCopy, pack}
-use Rattle.network.specs.Network.{mostLinks}
+use Rattle.flight.specs.Flight.{noCopy, pack}
 use Rattle.bench.specs.Bench.{noSeat}
 use Rattle.bench.specs.declared.Bench.{Bench}
 use Rattle.layout.proofs.Laws.{flat-length}
 
+-- a network's bytes: counts, switches, hosts, links
 module _ {n : Network} (start : List ℕ) {a b c e : List ℕ} where
   pub network-laid : SizedNetwork n → length start ≡ 355 → a ≡ putIn start 0 (counts n) → b ≡ put a switchesAt (flatMap switchBytes (n .switches))
       → c ≡ put b hostsAt (flatMap hostBytes (n .hosts)) → e ≡ put c linksAt (flatMap linkBytes (n .links)) → e ≡ networkBytes n

@@ -17,7 +17,6 @@ use lib.Dec.{eqb}
 use lib.ListN.{getD, length, take, drop}
 use Rattle.frame.specs.Header.{bit}
 use Rattle.wire.specs.Wire.{put}
-use Rattle.network.specs.declared.Port.{Port}
 use Rattle.network.specs.declared.Switch.{Switch}
 use Rattle.network.specs.declared.Host.{Host}
 use Rattle.network.specs.declared.Link.{Link}
@@ -165,11 +164,11 @@ networkIn bytes salts addresses =
       nlinks = getD bytes 2 0;
     }
 
--- whether link i is up: 0 is down
+-- whether link i is up: 0 is down, anything else up
 unfoldable pub upIn : List ℕ → ℕ → Bool
 upIn bytes i = not (eqb (getD bytes i 0) 0)
 
--- head k
+-- head k: its setup, and all of it
 unfoldable pub setupIn : List ℕ → List ℕ → List ℕ → ℕ → Setup
 setupIn bytes masks words k =
     record { ports = getD bytes (portsAt + k) 0; live = getD masks k 0; host = getD masks (hostMasksAt + k) 0; limit = getD bytes (limitsAt + k) 0; salt = getD words k 0 }
@@ -214,6 +213,7 @@ networkSalts n = map (λ s. s .salt) (n .switches)
 unfoldable pub networkAddresses : Network → List ℕ
 networkAddresses n = map (λ h. h .address) (n .hosts)
 
+-- arrays are those of the network that was laid down
 pub record LaidNetwork (n : Network) (b s a : List ℕ) : Type 0 where
   pub bytes : b ≡ networkBytes n
   pub salts : s ≡ networkSalts n
@@ -236,7 +236,7 @@ seatWords ss = map (λ s. s .switch .setup .salt) ss ++ map (λ s. s .switch .no
 unfoldable pub seatWides : List Seat → List ℕ
 seatWides ss = flatMap (λ s. s .switch .table .addresses) ss
 
--- laid between what bytes and wides hold besides
+-- arrays are those of the heads that were laid down; before them the bytes and behind them the wides are as they were
 pub record LaidSeats (ss : List Seat) (bytes₀ wides₀ b m w v : List ℕ) : Type 0 where
   pub bytes : b ≡ put bytes₀ portsAt (seatBytes ss)
   pub masks : m ≡ seatMasks ss
@@ -251,6 +251,7 @@ benchBytes b = map bit (b .up) ++ seatBytes (b .seats)
 unfoldable pub benchWides : Bench → List ℕ
 benchWides b = seatWides (b .seats) ++ (flatMap pack (b .copies) ++ (b .flying ∷ []))
 
+-- arrays are those of the bench that was laid down
 pub record LaidBench (x : Bench) (b m w v : List ℕ) : Type 0 where
   pub bytes : b ≡ benchBytes x
   pub masks : m ≡ seatMasks (x .seats)

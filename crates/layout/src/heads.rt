@@ -1,6 +1,6 @@
 // The heads of a bench. An array holds their numbers part by part, so each part has a turn of its
 // own over all heads.
-ghost use mathlib.Core.List.{_++_, flatMap, map};
+ghost use mathlib.Core.List.{flatMap, map};
 ghost use mathlib.Core.Path.{_≡_};
 ghost use Prim.Native.Nat.{_<_};
 ghost use lib.ListN.{length};

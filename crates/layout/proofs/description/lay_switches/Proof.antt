@@ -1,6 +1,6 @@
 -- Switch after switch, two bytes are put behind those of the switches before it, and a salt.
 use Prim.Native.Nat.{_-_, _≤_}
-use mathlib.Core.Path.{_≡_, refl, ap, _∙_}
+use mathlib.Core.Path.{_≡_, refl}
 use native.Mathlib.Omega.{arith}
 use lib.ListN.{length, length-map}
 use Rattle.network.specs.Network.{noSwitch}

@@ -1,6 +1,6 @@
 -- Head after head, one number is put behind those of the heads before it, in each of three arrays.
 use Prim.Native.Nat.{_-_, _≤_}
-use mathlib.Core.Path.{_≡_, refl, _∙_}
+use mathlib.Core.Path.{_≡_, refl}
 use native.Mathlib.Omega.{arith}
 use lib.ListN.{length}
 use Rattle.bench.specs.Bench.{noSeat}

@@ -1,6 +1,6 @@
 -- State after state is put behind those before it.
 use Prim.Native.Nat.{_-_, _≤_}
-use mathlib.Core.Path.{_≡_, refl, _∙_}
+use mathlib.Core.Path.{_≡_}
 use native.Mathlib.Omega.{arith}
 use lib.ListN.{getD, length}
 use Rattle.layout.proofs.Loops.{Column, column-end, column-next, rows-start}

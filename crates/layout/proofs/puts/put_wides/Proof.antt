@@ -1,6 +1,6 @@
 -- Number after number is put behind those before it.
 use Prim.Native.Nat.{_-_, _≤_}
-use mathlib.Core.Path.{_≡_, refl, ap, _∙_}
+use mathlib.Core.Path.{refl, ap, _∙_}
 use native.Mathlib.Omega.{arith}
 use lib.ListN.{length}
 use Rattle.layout.proofs.Loops.{Column, column-end, column-next, rows-start}
