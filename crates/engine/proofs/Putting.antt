@@ -1,0 +1,38 @@
+-- Numbers put into a buffer one behind the other, and a flag's number.
+use mathlib.Core.Path.{_≡_, refl, sym, ap, _∙_}
+use mathlib.Core.Bool.{Bool, true, false}
+use mathlib.Core.List.{List, [], _∷_, _++_}
+use Prim.Native.Nat.{ℕ, suc, _+_, _≤_, _<_}
+use native.Mathlib.Numerals.{add-one}
+use native.Mathlib.Omega.{arith}
+use lib.ListN.{length, getD, set, take, length-set}
+use lib.Seq.{take-suc, take-suc-set, take-all}
+use mir.Val.{boolByte}
+use Rattle.frame.specs.Header.{bit}
+
+-- so many numbers are put, and the buffer is as long as what is put
+pub record Putting (numbers buffer : List ℕ) (i : ℕ) : Type 0 where
+  pub long : length buffer ≡ length numbers
+  pub within : i ≤ length numbers
+  pub so-far : take i buffer ≡ take i numbers
+
+module _ {numbers buffer : List ℕ} where
+  pub putting-starts : length buffer ≡ length numbers → Putting numbers buffer 0
+  putting-starts e = record { long = e; within = omega arith; so-far = refl }
+
+  pub putting-next : {i : ℕ} → Putting numbers buffer i → i < length numbers → Putting numbers (set buffer i (getD numbers i 0)) (i + 1)
+  putting-next {i} p h =
+      let here : i < length buffer = omega (arith, p .long) in
+      record {
+        long = length-set buffer i (getD numbers i 0) ∙ p .long;
+        within = omega arith;
+        so-far = rw (add-one i, take-suc-set buffer i (getD numbers i 0) here, take-suc numbers i 0 h, p .so-far);
+      }
+
+  pub putting-ends : {i : ℕ} → Putting numbers buffer i → length numbers ≤ i → buffer ≡ numbers
+  putting-ends {i} p h =
+      sym (take-all i buffer (omega (arith, p .long))) ∙ p .so-far ∙ take-all i numbers h
+
+pub flag : (b : Bool) → boolByte b ≡ bit b
+flag true = refl
+flag false = refl

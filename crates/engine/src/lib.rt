@@ -1,0 +1,8 @@
+// The door: the proved crates as C functions, on numbers and slices of numbers.
+//
+// Each function is the call that it stands for, and no more: the caller lends the state as plain
+// arrays, laid out as include/stumpclover.h has them, and a call works on them where they lie. No
+// function asks anything of its arguments. What has a wrong length is refused, and a refused call
+// leaves everything lent as it was.
+mod heads;
+mod numbers;
