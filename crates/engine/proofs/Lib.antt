@@ -1,2 +1,4 @@
+mod Framing
 mod Putting
 mod Stepping
+mod Telling

@@ -1,13 +1,13 @@
 -- A step on what a caller lends: what the length tests give it, and what its answer makes of the lent report.
 use mathlib.Core.Path.{_≡_, refl, sym, ap, _∙_}
 use mathlib.Core.Bool.{Bool, true, false, _&&_, and-eq-true-iff}
-use mathlib.Core.List.{List, [], _∷_}
-use Prim.Native.Nat.{ℕ, zero, suc}
+use mathlib.Core.List.{List, []}
+use Prim.Native.Nat.{ℕ}
 use native.Mathlib.Omega.{arith}
 use lib.Dec.{eqb}
 use lib.ListN.{length}
 use borrow.Author.Tests.{eqb-true}
-use Rattle.refusal.specs.Refusal.{Told, answered, leaves}
+use Rattle.refusal.specs.Refusal.{answered, leaves}
 use Rattle.table.specs.declared.Table.{Table}
 use Rattle.table.specs.Table.{Sized, slots}
 use Rattle.rules.specs.Verdict.{reportValues}
@@ -16,6 +16,7 @@ use Rattle.head.specs.declared.Answer.{Answer}
 use Rattle.head.specs.declared.Answer.the-variants.{Refused, Done}
 use Rattle.head.specs.declared.Switch.{Switch}
 use Rattle.head.specs.Step.{Steps, refusal, ruled, toldAnswer}
+use Rattle.engine.proofs.Telling.{tells-given, tells-kept, tells-number}
 use Rattle.engine.specs.Head.{StepsLent, fitting, numberIn, reportIn, reportSize, sized, stepRefusal}
 
 pub sized-holds : (t : Table) → sized t ≡ true → Sized t
@@ -36,17 +37,13 @@ module _ (t : Table) (k : ℕ) (e : fitting t k ≡ true) where
 
 -- the number that an answer tells
 told-number : (a : Answer) (n : ℕ) (vs : List ℕ) → toldAnswer a ≡ answered n vs → numberIn a ≡ n
-told-number (Refused m) zero vs e = ap (λ (t : Told). t .number) e
-told-number (Refused m) (suc n) vs e = ap (λ (t : Told). t .number) e
-told-number (Done r) zero vs e = refl
-told-number (Done r) (suc n) vs e = ap (λ (t : Told). t .number) e
+told-number (Refused m) n vs e = tells-number m n vs [] e
+told-number (Done r) n vs e = tells-number 0 n vs (reportValues r) e
 
 -- and what it leaves of the report, which has some numbers
 told-report : (a : Answer) (n : ℕ) (vs report : List ℕ) → (length vs ≡ 0 → ⊥) → toldAnswer a ≡ answered n vs → reportIn a report ≡ leaves n report vs
-told-report (Refused m) zero vs report some e = absurd (some (sym (ap (λ (t : Told). length (t .values)) e)))
-told-report (Refused m) (suc n) vs report some e = refl
-told-report (Done r) zero vs report some e = ap (λ (t : Told). t .values) e
-told-report (Done r) (suc n) vs report some e = let z : 0 ≡ suc n = ap (λ (t : Told). t .number) e in absurd (omega (arith, z))
+told-report (Refused m) n vs report some e = tells-kept m n vs report vs some e
+told-report (Done r) n vs report some e = tells-given n vs (reportValues r) report e
 
 module _ {s : Switch} {f : List ℕ} {port : ℕ} {frame out numbers : List ℕ} where
   pub lent-refused : fitting (s .table) (length numbers) ≡ false

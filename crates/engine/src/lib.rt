@@ -4,5 +4,6 @@
 // arrays, laid out as include/stumpclover.h has them, and a call works on them where they lie. No
 // function asks anything of its arguments. What has a wrong length is refused, and a refused call
 // leaves everything lent as it was.
+mod frames;
 mod heads;
 mod numbers;
