@@ -1,4 +1,5 @@
 mod Framing
+mod Freshening
 mod Putting
 mod Stepping
 mod Telling

@@ -5,9 +5,10 @@ use mathlib.Core.List.{List, [], _∷_, _++_}
 use Prim.Native.Nat.{ℕ, suc, _+_, _≤_, _<_}
 use native.Mathlib.Numerals.{add-one}
 use native.Mathlib.Omega.{arith}
-use lib.ListN.{length, getD, set, take, length-set}
+use lib.ListN.{length, getD, set, take, length-set, replicate-append-replicate}
 use lib.Seq.{take-suc, take-suc-set, take-all}
 use mir.Val.{boolByte}
+use Rattle.filter.specs.Filter.{zeros}
 use Rattle.frame.specs.Header.{bit}
 
 -- so many numbers are put, and the buffer is as long as what is put
@@ -32,6 +33,27 @@ module _ {numbers buffer : List ℕ} where
   pub putting-ends : {i : ℕ} → Putting numbers buffer i → length numbers ≤ i → buffer ≡ numbers
   putting-ends {i} p h =
       sym (take-all i buffer (omega (arith, p .long))) ∙ p .so-far ∙ take-all i numbers h
+
+-- so many bytes are cleared of a buffer that was as long before
+pub record Clearing (before buffer : List ℕ) (i : ℕ) : Type 0 where
+  pub long : length buffer ≡ length before
+  pub within : i ≤ length before
+  pub so-far : take i buffer ≡ zeros i
+
+module _ {before buffer : List ℕ} where
+  pub clearing-next : {i : ℕ} → Clearing before buffer i → i < length buffer → Clearing before (set buffer i 0) (i + 1)
+  clearing-next {i} p h =
+      let more : zeros i ++ zeros 1 ≡ zeros (i + 1) = replicate-append-replicate i 1 0 in
+      record {
+        long = length-set buffer i 0 ∙ p .long;
+        within = omega (arith, p .long);
+        so-far = ap (λ (k : ℕ). take k (set buffer i 0)) (add-one i) ∙ take-suc-set buffer i 0 h ∙ rw (p .so-far) more;
+      }
+
+  pub clearing-ends : {i : ℕ} → Clearing before buffer i → length buffer ≤ i → buffer ≡ zeros (length before)
+  clearing-ends {i} p h =
+      let all : i ≡ length before = omega (arith, p .long, p .within) in
+      sym (take-all i buffer h) ∙ p .so-far ∙ ap zeros all
 
 pub flag : (b : Bool) → boolByte b ≡ bit b
 flag true = refl

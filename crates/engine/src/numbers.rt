@@ -1,6 +1,7 @@
 // What the answers are made of: arrays of numbers, and a verdict's letter, mask and header.
 ghost use mathlib.Core.Path.{_≡_};
 ghost use lib.ListN.{length};
+ghost use Rattle.filter.specs.Filter.{zeros};
 ghost use Rattle.rules.specs.Verdict.{letterOf, noHeader, sendingOf, sentBy};
 use frame::Header;
 use rules::Send;
@@ -16,6 +17,17 @@ pub(crate) fn put(buffer: &mut [u64], numbers: &[u64])
     let mut i: usize = 0;
     while i < numbers.len() {
         buffer[i] = numbers[i];
+        i += 1;
+    }
+}
+
+// Makes every byte of a buffer zero.
+pub(crate) fn clear(buffer: &mut [u8])
+    ensures { λ _. ⌜ now (buffer .exit) ≡ zeros (length (now (buffer .entry))) ⌝ }
+{
+    let mut i: usize = 0;
+    while i < buffer.len() {
+        buffer[i] = 0;
         i += 1;
     }
 }
