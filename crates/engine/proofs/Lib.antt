@@ -1,3 +1,4 @@
+mod Describing
 mod Framing
 mod Freshening
 mod Putting

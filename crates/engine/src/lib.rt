@@ -6,4 +6,5 @@
 // leaves everything lent as it was.
 mod frames;
 mod heads;
+mod networks;
 mod numbers;
