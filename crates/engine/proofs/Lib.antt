@@ -1,6 +1,5 @@
-mod Describing
 mod Framing
 mod Freshening
-mod Putting
+pub mod Putting
 mod Stepping
-mod Telling
+pub mod Telling

@@ -1,3 +1,2 @@
-pub mod Head
 pub mod Frames
-pub mod Networks
+pub mod Head

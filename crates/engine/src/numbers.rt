@@ -10,7 +10,7 @@ use rules::Verdict;
 use rules::sending_of;
 
 // Puts numbers into a buffer of as many.
-pub(crate) fn put(buffer: &mut [u64], numbers: &[u64])
+pub fn put(buffer: &mut [u64], numbers: &[u64])
     requires { ⌜ length (now buffer) ≡ length (now numbers) ⌝ }
     ensures { λ _. ⌜ now (buffer .exit) ≡ now (numbers .entry) ⌝ }
 {
@@ -22,7 +22,7 @@ pub(crate) fn put(buffer: &mut [u64], numbers: &[u64])
 }
 
 // Makes every byte of a buffer zero.
-pub(crate) fn clear(buffer: &mut [u8])
+pub fn clear(buffer: &mut [u8])
     ensures { λ _. ⌜ now (buffer .exit) ≡ zeros (length (now (buffer .entry))) ⌝ }
 {
     let mut i: usize = 0;
@@ -33,7 +33,7 @@ pub(crate) fn clear(buffer: &mut [u8])
 }
 
 // A verdict's letter.
-pub(crate) fn letter(v: Verdict) -> u8
+pub fn letter(v: Verdict) -> u8
     ensures { λ r. ⌜ r ≡ letterOf v ⌝ }
 {
     match v {
@@ -50,7 +50,7 @@ pub(crate) fn letter(v: Verdict) -> u8
 }
 
 // The mask and the header of what a verdict sends: 0 after a drop.
-pub(crate) fn sent_by(v: Verdict) -> Send
+pub fn sent_by(v: Verdict) -> Send
     ensures { λ r. ⌜ r ≡ sentBy (sendingOf v) ⌝ }
 {
     let sending = sending_of(v);

@@ -1,9 +1,9 @@
 -- Read first, and laid down only where nothing was refused.
-use Rattle.engine.proofs.Describing.{fits-network, read-done, read-refused, read-unsized}
+use Rattle.engine_bench.proofs.Describing.{fits-network, read-done, read-refused, read-unsized}
 use mathlib.Core.Path.{sym, _∙_}
 use borrow.Author.Needs.{needs}
-use Rattle.engine.proofs.networks.sc_read.Statement.{statement}
-use Rattle.engine.proofs.networks.sc_read.Tie as tie
+use Rattle.engine_bench.proofs.networks.sc_read.Statement.{statement}
+use Rattle.engine_bench.proofs.networks.sc_read.Tie as tie
 
 network-fits-requires : tie.Need-network-fits-requires
 network-fits-requires c κs = search needs

@@ -1,7 +1,7 @@
 // A network description, read and written. A network is lent as three arrays, which crate `layout` draws.
 ghost use lib.ListN.{length};
 ghost use Rattle.layout.specs.Layout.{networkFits, networkIn};
-ghost use Rattle.engine.specs.Networks.{ReadsLent, WritesLent, readRefusal, writeRefusal};
+ghost use Rattle.engine_bench.specs.Networks.{ReadsLent, WritesLent, readRefusal, writeRefusal};
 use layout::lay_network;
 use layout::network_fits;
 use layout::network_of;

@@ -1,9 +1,9 @@
 -- The network that the arrays hold is written, and the length goes back through the reference.
-use Rattle.engine.proofs.Describing.{fits-network, write-done, write-refused, write-unsized}
+use Rattle.engine_bench.proofs.Describing.{fits-network, write-done, write-refused, write-unsized}
 use mathlib.Core.Path.{sym, _∙_}
 use borrow.Author.Needs.{needs}
-use Rattle.engine.proofs.networks.sc_write.Statement.{statement}
-use Rattle.engine.proofs.networks.sc_write.Tie as tie
+use Rattle.engine_bench.proofs.networks.sc_write.Statement.{statement}
+use Rattle.engine_bench.proofs.networks.sc_write.Tie as tie
 
 network-fits-requires : tie.Need-network-fits-requires
 network-fits-requires c κs = search needs

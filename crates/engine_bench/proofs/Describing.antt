@@ -15,8 +15,8 @@ use Rattle.network.specs.declared.Answer.{Answer}
 use Rattle.network.specs.declared.Answer.the-variants.{Refused, Ends}
 use Rattle.network.specs.Describe.{image, readEnd, readFault, readNetwork, told, writeFault, written}
 use Rattle.layout.specs.Layout.{HoldsNetwork, LaidNetwork, networkAddresses, networkBytes, networkFits, networkSalts}
-use Rattle.engine.specs.Networks.{ReadsLent, WritesLent, readRefusal, writeRefusal}
+use Rattle.engine_bench.specs.Networks.{ReadsLent, WritesLent, readRefusal, writeRefusal}
 use Rattle.engine.proofs.Telling.{tells, tells-kept, tells-number, tells-one}
 
 pub fits-network : (b s a : List ℕ) → networkFits (length b) (length s) (length a) ≡ true → HoldsNetwork b s a
 fits-network b s a e =
