@@ -1,1 +1,2 @@
+mod Benching
 mod Describing
