@@ -1,3 +1,4 @@
+pub mod Doors
 mod Framing
 mod Freshening
 pub mod Putting

@@ -6,7 +6,6 @@ ghost use Rattle.table.specs.Table.{Sized, emptyTable, tableOf};
 ghost use Rattle.rules.specs.Verdict.{reportValues};
 ghost use Rattle.engine.specs.Head.{FreshensLent, LooksUp, StepsLent, fitting, freshRefusal, numberIn, reportIn, reportSize, setupRefusal, sized, stepRefusal, switchIn};
 use crate::numbers::clear;
-use crate::numbers::letter;
 use crate::numbers::put;
 use crate::numbers::sent_by;
 use head::Answer;
@@ -14,6 +13,7 @@ use head::causes::switch_refusal;
 use head::inner::step_in;
 use rules::Report;
 use rules::Setup;
+use rules::letter_of;
 use table::Found;
 use table::Table;
 use table::lookup_in;
@@ -53,7 +53,7 @@ fn numbers_of(r: Report) -> [u64; REPORT]
     [
         r.full as u64,
         r.overwrote as u64,
-        letter(v) as u64,
+        letter_of(v) as u64,
         s.mask as u64,
         h.l as u64,
         h.f as u64,

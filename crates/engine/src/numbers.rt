@@ -1,8 +1,8 @@
-// What the answers are made of: arrays of numbers, and a verdict's letter, mask and header.
+// What the answers are made of: arrays of numbers, and a verdict's mask and header.
 ghost use mathlib.Core.Path.{_≡_};
 ghost use lib.ListN.{length};
 ghost use Rattle.filter.specs.Filter.{zeros};
-ghost use Rattle.rules.specs.Verdict.{letterOf, noHeader, sendingOf, sentBy};
+ghost use Rattle.rules.specs.Verdict.{noHeader, sendingOf, sentBy};
 use frame::Header;
 use rules::Send;
 use rules::Sending;
@@ -29,23 +29,6 @@ pub fn clear(buffer: &mut [u8])
     while i < buffer.len() {
         buffer[i] = 0;
         i += 1;
-    }
-}
-
-// A verdict's letter.
-pub fn letter(v: Verdict) -> u8
-    ensures { λ r. ⌜ r ≡ letterOf v ⌝ }
-{
-    match v {
-        Verdict::X => 0x58,
-        Verdict::D => 0x44,
-        Verdict::G => 0x47,
-        Verdict::E => 0x45,
-        Verdict::F(_) => 0x46,
-        Verdict::N(_) => 0x4E,
-        Verdict::B(_) => 0x42,
-        Verdict::H(_) => 0x48,
-        Verdict::U(_) => 0x55,
     }
 }
 

@@ -1,2 +1,3 @@
 mod Benching
 mod Describing
+pub mod Doors

@@ -1,7 +1,6 @@
 // The bench: a network's three arrays, which stay as they are, and the bench's four, drawn in crate `layout`.
 ghost use mathlib.Core.Path.{_≡_};
 ghost use lib.ListN.{length};
-ghost use Rattle.turn.specs.Turn.{refusalOf};
 ghost use Rattle.network.specs.Checks.{networkFault};
 ghost use Rattle.event.specs.Event.{eventIn};
 ghost use Rattle.counters.specs.Event.{eventRefusal};
@@ -12,7 +11,6 @@ use bench::Made;
 use counters::Counted;
 use counters::Counters;
 use counters::happens;
-use engine::numbers::letter;
 use engine::numbers::put;
 use engine::numbers::sent_by;
 use event::Event;
@@ -23,8 +21,10 @@ use layout::lay_bench;
 use layout::network_fits;
 use layout::network_of;
 use network::Network;
+use rules::letter_of;
 use turn::Answer;
 use turn::Report;
+use turn::refusal_of;
 
 const COUNTERS: usize = 7;
 
@@ -124,7 +124,7 @@ fn step_numbers(r: Report) -> [u64; REPORT]
         r.lost as u64,
         r.received as u64,
         r.overwrote as u64,
-        letter(v) as u64,
+        letter_of(v) as u64,
         s.mask as u64,
         h.l as u64,
         h.f as u64,
@@ -141,17 +141,6 @@ fn event_numbers(a: Answer) -> [u64; REPORT]
         Answer::Refused(_) => [0u64; REPORT],
         Answer::Stepped(r) => step_numbers(r),
         Answer::Linked(cut) => [cut as u64, 0, 0, 0, 0, 0, 0, 0, 0, 0x4B, 0, 0, 0, 0, 0],
-    }
-}
-
-// An answer's refusal number, 0 for none.
-fn refusal_of(a: Answer) -> u8
-    ensures { λ r. ⌜ r ≡ refusalOf a ⌝ }
-{
-    match a {
-        Answer::Refused(n) => n,
-        Answer::Stepped(_) => 0,
-        Answer::Linked(_) => 0,
     }
 }
 

@@ -12,8 +12,8 @@ cast-t5 c = search needs
 cast-t6 : tie.Need-cast-t6
 cast-t6 c = search needs
 
-letter-requires : tie.Need-letter-requires
-letter-requires c κs = search needs
+letter-of-requires : tie.Need-letter-of-requires
+letter-of-requires c κs = search needs
 
 cast-t8 : tie.Need-cast-t8
 cast-t8 c = search needs
@@ -34,7 +34,7 @@ cast-t13 : tie.Need-cast-t13
 cast-t13 c = search needs
 
 returns : tie.Need-returns
-returns c = simp (flag, c .before .before .before .before .before .letter .ensures, c .before .before .before .before .before .before .before .before .before .sent-by .ensures)
+returns c = simp (flag, c .before .before .before .before .before .letter-of .ensures, c .before .before .before .before .before .before .before .before .before .sent-by .ensures)
 
 pub numbers-of-spec : {M : Type 1} → statement M
 numbers-of-spec =
@@ -43,7 +43,7 @@ numbers-of-spec =
     sent-by-requires
     cast-t5
     cast-t6
-    letter-requires
+    letter-of-requires
     cast-t8
     cast-t9
     cast-t10

@@ -25,8 +25,8 @@ cast-t9 c = search needs
 cast-t10 : tie.Need-cast-t10
 cast-t10 c = search needs
 
-letter-requires : tie.Need-letter-requires
-letter-requires c κs = search needs
+letter-of-requires : tie.Need-letter-of-requires
+letter-of-requires c κs = search needs
 
 cast-t12 : tie.Need-cast-t12
 cast-t12 c = search needs
@@ -47,7 +47,7 @@ cast-t17 : tie.Need-cast-t17
 cast-t17 c = search needs
 
 returns : tie.Need-returns
-returns c = simp (flag, c .before .before .before .before .before .letter .ensures, c .before .before .before .before .before .before .before .before .before .before .before .before .before .sent-by .ensures)
+returns c = simp (flag, c .before .before .before .before .before .letter-of .ensures, c .before .before .before .before .before .before .before .before .before .before .before .before .before .sent-by .ensures)
 
 pub step-numbers-spec : {M : Type 1} → statement M
 step-numbers-spec =
@@ -60,7 +60,7 @@ step-numbers-spec =
     cast-t8
     cast-t9
     cast-t10
-    letter-requires
+    letter-of-requires
     cast-t12
     cast-t13
     cast-t14
