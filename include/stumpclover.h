@@ -14,7 +14,7 @@
  *     0 may point anywhere that is aligned and not null);
  *   - say more elements than there are, or change what is lent while a call runs.
  * A call keeps no pointer when it returns, has no state of its own, and can run beside others that
- * lend other memory. sc_fresh and sc_event take some 300 kilobytes of stack, the others 8.
+ * lend other memory. sc_fresh and sc_event take some 200 kilobytes of stack, the others at most 8.
  *
  * An address is a number below 2^48, its first byte on the wire the highest. Bit p of a mask stands
  * for port p. The state is plain arrays, so that it can lie anywhere and a step copies nothing; the
