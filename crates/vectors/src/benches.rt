@@ -3,6 +3,7 @@ ghost use Prim.Native.Nat.{_≤_};
 use crate::frames;
 use crate::heads;
 use crate::print;
+use crate::print::Row;
 use crate::same;
 use crate::stands;
 use crate::token;
@@ -277,31 +278,28 @@ fn used(up: bool, i: usize, count: u8) -> u64 {
     0
 }
 
-fn put_seat(out: &mut [u8], to: usize, i: usize, s: Seat) -> usize {
-    let a = print::text(out, to, b"seat");
-    let a = print::last(out, a, i as u64);
+fn print_seat(i: usize, s: Seat) {
+    Row::start(b"seat").decimal(i as u64).end();
     let switch = s.switch;
-    let a = heads::put_head(out, a, switch);
+    heads::print_head(switch);
     let cells = s.cells;
-    heads::put_filter(out, a, &cells)
+    heads::print_filter(&cells);
 }
 
-fn put_seats(out: &mut [u8], to: usize, seats: [Seat; Network::SWITCHES], count: u8) -> usize {
-    let mut to = to;
+fn print_seats(seats: [Seat; Network::SWITCHES], count: u8) {
     let mut i: usize = 0;
     while i < Network::SWITCHES {
         if count as usize <= i {
-            return to;
+            return;
         }
         let s = seats[i];
-        to = put_seat(out, to, i, s);
+        print_seat(i, s);
         i += 1;
     }
-    to
 }
 
 // Where it will arrive, and what it carries.
-fn put_copy(out: &mut [u8], to: usize, n: Network, i: usize, c: Copy) -> usize {
+fn print_copy(n: Network, i: usize, c: Copy) {
     let port = cabling::port_of(
         n,
         End {
@@ -309,106 +307,81 @@ fn put_copy(out: &mut [u8], to: usize, n: Network, i: usize, c: Copy) -> usize {
             second: c.second,
         },
     );
-    let a = print::named(out, to, b"copy", i as u64);
-    let a = stands::put_port(out, a, port);
-    let a = print::address(out, a, c.source);
-    let a = print::address(out, a, c.destination);
+    let row = stands::put_port(Row::start(b"copy").decimal(i as u64), port);
+    let row = row.address(c.source).address(c.destination);
     let h = c.header;
-    let a = frames::put_header(out, a, h);
-    print::newline(out, a)
+    frames::put_header(row, h).end();
 }
 
-fn put_copies(
-    out: &mut [u8],
-    to: usize,
-    n: Network,
-    copies: [Copy; Copy::MOST],
-    flying: usize,
-) -> usize {
-    let a = print::text(out, to, b"copies");
-    let mut to = print::last(out, a, flying as u64);
+fn print_copies(n: Network, copies: [Copy; Copy::MOST], flying: usize) {
+    Row::start(b"copies").decimal(flying as u64).end();
     let mut i: usize = 0;
     while i < Copy::MOST {
         if flying <= i {
-            return to;
+            return;
         }
         let c = copies[i];
-        to = put_copy(out, to, n, i, c);
+        print_copy(n, i, c);
         i += 1;
     }
-    to
 }
 
 // The bench without what lies behind its counts.
-pub(crate) fn put_bench(out: &mut [u8], to: usize, b: Bench) -> usize {
+pub(crate) fn print_bench(b: Bench) {
     let n = b.network;
-    let a = stands::put_network(out, to, n);
-    let a = print::text(out, a, b"states");
+    stands::print_network(n);
     let up = b.up;
-    let a = print::hex(out, a, states_of(up, n.nlinks), 16);
-    let a = print::newline(out, a);
+    Row::start(b"states").hex(states_of(up, n.nlinks), 16).end();
     let seats = b.seats;
-    let a = put_seats(out, a, seats, n.nswitches);
+    print_seats(seats, n.nswitches);
     let copies = b.copies;
-    put_copies(out, a, n, copies, b.flying)
+    print_copies(n, copies, b.flying);
 }
 
-pub(crate) fn put_counters(out: &mut [u8], to: usize, c: Counters) -> usize {
-    let a = print::named(out, to, b"counters", c.placed);
-    let a = print::decimal(out, a, c.taken);
-    let a = print::decimal(out, a, c.cut);
-    let a = print::decimal(out, a, c.lost);
-    let a = print::decimal(out, a, c.delivered);
-    let a = print::decimal(out, a, c.overwritten);
-    print::last(out, a, c.accepted)
+pub(crate) fn print_counters(c: Counters) {
+    let row = Row::start(b"counters").decimal(c.placed).decimal(c.taken);
+    let row = row.decimal(c.cut).decimal(c.lost).decimal(c.delivered);
+    row.decimal(c.overwritten).decimal(c.accepted).end();
 }
 
 // What came of a step's copies; none are cut.
-fn put_sent(out: &mut [u8], to: usize, r: Report) -> usize {
-    let a = print::decimal(out, to, r.placed as u64);
-    let a = print::decimal(out, a, r.lost as u64);
-    let a = print::text(out, a, b" 0");
-    let a = print::hex(out, a, r.received as u64, 8);
-    print::flag(out, a, r.overwrote)
+fn put_sent(row: Row, r: Report) -> Row {
+    let row = row.decimal(r.placed as u64).decimal(r.lost as u64);
+    row.text(b" 0").hex(r.received as u64, 8).flag(r.overwrote)
 }
 
 // Where a step was, and the frame's addresses.
-fn put_place(out: &mut [u8], to: usize, r: Report) -> usize {
-    let a = print::decimal(out, to, r.switch as u64);
-    let a = print::decimal(out, a, r.port as u64);
-    let a = print::address(out, a, r.source);
-    print::address(out, a, r.destination)
+fn put_place(row: Row, r: Report) -> Row {
+    let row = row.decimal(r.switch as u64).decimal(r.port as u64);
+    row.address(r.source).address(r.destination)
 }
 
-fn put_stepped(out: &mut [u8], to: usize, r: Report) -> usize {
-    let a = print::text(out, to, b"report");
+fn print_stepped(r: Report) {
     let v = r.verdict;
-    let a = heads::put_verdict(out, a, v);
-    let a = put_sent(out, a, r);
-    let a = put_place(out, a, r);
-    print::newline(out, a)
+    let row = heads::put_verdict(Row::start(b"report"), v);
+    put_place(put_sent(row, r), r).end();
 }
 
-fn put_linked(out: &mut [u8], to: usize, cut: u16) -> usize {
-    let a = print::text(out, to, b"report K 0000 0 0 0 0 0 0");
-    let a = print::decimal(out, a, cut as u64);
-    print::text(out, a, b" 00000000 0\n")
+fn print_linked(cut: u16) {
+    let row = Row::start(b"report K 0000 0 0 0 0 0 0").decimal(cut as u64);
+    row.text(b" 00000000 0").end();
 }
 
 // The report; nothing of a refusal.
-pub(crate) fn put_report(out: &mut [u8], to: usize, answer: Answer) -> usize {
+pub(crate) fn print_report(answer: Answer) {
     match answer {
-        Answer::Refused(_) => to,
-        Answer::Stepped(r) => put_stepped(out, to, r),
-        Answer::Linked(cut) => put_linked(out, to, cut),
+        Answer::Refused(_) => {}
+        Answer::Stepped(r) => print_stepped(r),
+        Answer::Linked(cut) => print_linked(cut),
     }
 }
 
-fn put_same(out: &mut [u8], to: usize, is_same: bool) -> usize {
+fn print_same(is_same: bool) {
     if is_same {
-        return print::text(out, to, b"same\n");
+        print::line(b"same");
+    } else {
+        print::line(b"changed");
     }
-    print::text(out, to, b"changed\n")
 }
 
 // The public event takes the counters lent; here they are lent, and handed back.
@@ -417,46 +390,50 @@ pub(crate) fn happen(bench: Bench, e: Event, mut counters: Counters) -> Counted 
     Counted { happened, counters }
 }
 
-fn act(b: Bench, c: Counters, e: Event, out: &mut [u8], to: usize) -> usize {
+fn act(b: Bench, c: Counters, e: Event) {
     let counted = happen(b, e, c);
     let happened = counted.happened;
     let bench = happened.bench;
     let counters = counted.counters;
     let answer = happened.answer;
     if let Answer::Refused(n) = answer {
-        let a = print::refused(out, to, n);
-        return put_same(out, a, same::is_same(b, bench, c, counters));
+        print::refused(n);
+        print_same(same::is_same(b, bench, c, counters));
+        return;
     }
-    let a = put_report(out, to, answer);
-    let a = put_bench(out, a, bench);
-    put_counters(out, a, counters)
+    print_report(answer);
+    print_bench(bench);
+    print_counters(counters);
 }
 
-pub(crate) fn event(line: &[u8], at: usize, out: &mut [u8], to: usize) -> usize {
+pub(crate) fn event(line: &[u8], at: usize) {
     let b = bench(line, at);
     let c = counters(line, b.next);
     let e = event_read(line, c.next);
     if e.next != line.len() {
-        return print::unreadable(out, to);
+        print::line(b"unreadable");
+        return;
     }
     let bench = b.bench;
     let counters = c.counters;
     let event = e.event;
-    act(bench, counters, event, out, to)
+    act(bench, counters, event);
 }
 
-pub(crate) fn fresh(line: &[u8], at: usize, out: &mut [u8], to: usize) -> usize {
+pub(crate) fn fresh(line: &[u8], at: usize) {
     let read = stands::network(line, at);
     if read.next != line.len() {
-        return print::unreadable(out, to);
+        print::line(b"unreadable");
+        return;
     }
     let n = read.network;
     let fresh = Bench::fresh(n);
     let made = fresh.made;
     if let Made::Refused(n) = made {
-        return print::refused(out, to, n);
+        print::refused(n);
+        return;
     }
-    let a = print::text(out, to, b"fresh\n");
+    print::line(b"fresh");
     let b = fresh.bench;
-    put_bench(out, a, b)
+    print_bench(b);
 }

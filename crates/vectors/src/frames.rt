@@ -1,5 +1,6 @@
 // Tagging and stripping.
 use crate::print;
+use crate::print::Row;
 use crate::token;
 use frame::Header;
 use frame::Stripping;
@@ -26,86 +27,72 @@ pub(crate) fn header(line: &[u8], at: usize) -> HeaderRead {
     }
 }
 
-pub(crate) fn put_header(out: &mut [u8], to: usize, h: Header) -> usize {
-    let a = print::flag(out, to, h.l);
-    let a = print::flag(out, a, h.f);
-    let a = print::decimal(out, a, h.hc as u64);
-    print::decimal(out, a, h.nonce as u64)
+pub(crate) fn put_header(row: Row, h: Header) -> Row {
+    let flags = row.flag(h.l).flag(h.f);
+    flags.decimal(h.hc as u64).decimal(h.nonce as u64)
 }
 
-fn put_tagged(out: &mut [u8], to: usize, t: Tagging) -> usize {
+fn print_tagged(t: Tagging) {
     match t {
-        Tagging::Refused(n) => print::refused(out, to, n),
-        Tagging::Tagged(n) => {
-            let a = print::named(out, to, b"tagged", n as u64);
-            print::newline(out, a)
-        }
+        Tagging::Refused(n) => print::refused(n),
+        Tagging::Tagged(n) => Row::start(b"tagged").decimal(n as u64).end(),
     }
 }
 
-fn tag_into(
-    frame: &[u8],
-    h: Header,
-    output: &mut [u8],
-    fill: u8,
-    out: &mut [u8],
-    to: usize,
-) -> usize {
+fn tag_into(frame: &[u8], h: Header, output: &mut [u8], fill: u8) {
     print::fill(output, fill);
-    let t = frame::tag(frame, h, output);
-    let a = put_tagged(out, to, t);
-    print::output(out, a, output, fill)
+    print_tagged(frame::tag(frame, h, output));
+    print::output(output, fill);
 }
 
-fn tag_frame(line: &[u8], at: usize, frame: &[u8], out: &mut [u8], to: usize) -> usize {
+fn tag_frame(line: &[u8], at: usize, frame: &[u8]) {
     let h = header(line, at);
     let o = token::output(line, h.next);
     if o.next != line.len() {
-        return print::unreadable(out, to);
+        print::line(b"unreadable");
+        return;
     }
     let mut output = [0u8; token::OUTPUT];
     let long = o.length;
     let header = h.header;
-    tag_into(frame, header, &mut output[0..long], o.fill, out, to)
+    tag_into(frame, header, &mut output[0..long], o.fill);
 }
 
-pub(crate) fn tag(line: &[u8], at: usize, out: &mut [u8], to: usize) -> usize {
+pub(crate) fn tag(line: &[u8], at: usize) {
     let mut frame = [0u8; token::FRAME];
     let read = token::bytes(line, at, &mut frame);
-    tag_frame(line, read.next, token::first(&frame, read.count), out, to)
+    tag_frame(line, read.next, token::first(&frame, read.count));
 }
 
-fn put_stripped(out: &mut [u8], to: usize, s: Stripping) -> usize {
+fn print_stripped(s: Stripping) {
     match s {
-        Stripping::Refused(n) => print::refused(out, to, n),
+        Stripping::Refused(n) => print::refused(n),
         Stripping::Stripped(host) => {
-            let a = print::named(out, to, b"stripped", host.len as u64);
             let h = host.header;
-            let a = put_header(out, a, h);
-            print::newline(out, a)
+            put_header(Row::start(b"stripped").decimal(host.len as u64), h).end();
         }
     }
 }
 
-fn strip_into(frame: &[u8], output: &mut [u8], fill: u8, out: &mut [u8], to: usize) -> usize {
+fn strip_into(frame: &[u8], output: &mut [u8], fill: u8) {
     print::fill(output, fill);
-    let s = frame::strip(frame, output);
-    let a = put_stripped(out, to, s);
-    print::output(out, a, output, fill)
+    print_stripped(frame::strip(frame, output));
+    print::output(output, fill);
 }
 
-fn strip_frame(line: &[u8], at: usize, frame: &[u8], out: &mut [u8], to: usize) -> usize {
+fn strip_frame(line: &[u8], at: usize, frame: &[u8]) {
     let o = token::output(line, at);
     if o.next != line.len() {
-        return print::unreadable(out, to);
+        print::line(b"unreadable");
+        return;
     }
     let mut output = [0u8; token::OUTPUT];
     let long = o.length;
-    strip_into(frame, &mut output[0..long], o.fill, out, to)
+    strip_into(frame, &mut output[0..long], o.fill);
 }
 
-pub(crate) fn strip(line: &[u8], at: usize, out: &mut [u8], to: usize) -> usize {
+pub(crate) fn strip(line: &[u8], at: usize) {
     let mut frame = [0u8; token::FRAME];
     let read = token::bytes(line, at, &mut frame);
-    strip_frame(line, read.next, token::first(&frame, read.count), out, to)
+    strip_frame(line, read.next, token::first(&frame, read.count));
 }

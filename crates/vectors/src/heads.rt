@@ -1,9 +1,11 @@
 // A head's switch: read, stepped, printed.
 use crate::frames;
 use crate::print;
+use crate::print::Row;
 use crate::token;
 use frame::Header;
 use head::Answer;
+use head::Stepped;
 use head::Switch;
 use rules::Report;
 use rules::Sending;
@@ -100,139 +102,99 @@ pub(crate) fn head(line: &[u8], at: usize) -> HeadRead {
     }
 }
 
-fn put_setup(out: &mut [u8], to: usize, s: Setup, nonce: u32) -> usize {
-    let a = print::named(out, to, b"head", s.ports as u64);
-    let a = print::hex(out, a, s.live as u64, 4);
-    let a = print::hex(out, a, s.host as u64, 4);
-    let a = print::decimal(out, a, s.limit as u64);
-    let a = print::hex(out, a, s.salt as u64, 8);
-    print::last(out, a, nonce as u64)
+fn print_setup(s: Setup, nonce: u32) {
+    let row = Row::start(b"head").decimal(s.ports as u64);
+    let row = row.hex(s.live as u64, 4).hex(s.host as u64, 4);
+    let row = row.decimal(s.limit as u64).hex(s.salt as u64, 8);
+    row.decimal(nonce as u64).end();
 }
 
-fn put_slot(out: &mut [u8], to: usize, i: usize, address: u64, port: u8, hops: u8) -> usize {
+fn print_slot(i: usize, address: u64, port: u8, hops: u8) {
     if address == 0 {
         if port == 0 {
             if hops == 0 {
-                return to;
+                return;
             }
         }
     }
-    let a = print::named(out, to, b"slot", i as u64);
-    let a = print::address(out, a, address);
-    let a = print::decimal(out, a, port as u64);
-    print::last(out, a, hops as u64)
+    let row = Row::start(b"slot").decimal(i as u64).address(address);
+    row.decimal(port as u64).decimal(hops as u64).end();
 }
 
-fn put_table(out: &mut [u8], to: usize, t: Table) -> usize {
-    let mut to = to;
+fn print_table(t: Table) {
     let mut i: usize = 0;
     while i < Table::SLOTS {
-        to = put_slot(out, to, i, t.addresses[i], t.ports[i], t.hops[i]);
+        print_slot(i, t.addresses[i], t.ports[i], t.hops[i]);
         i += 1;
     }
-    to
 }
 
-pub(crate) fn put_head(out: &mut [u8], to: usize, s: Switch) -> usize {
+pub(crate) fn print_head(s: Switch) {
     let setup = s.setup;
     let table = s.table;
-    let a = put_setup(out, to, setup, s.nonce);
-    put_table(out, a, table)
+    print_setup(setup, s.nonce);
+    print_table(table);
 }
 
-pub(crate) fn put_filter(out: &mut [u8], to: usize, filter: &[u8]) -> usize {
+pub(crate) fn print_filter(filter: &[u8]) {
     let empty = [0u8; 1];
-    let a = print::named(out, to, b"filter", filter.len() as u64);
-    let a = print::newline(out, a);
-    print::differing(out, a, b"cell", &empty, filter)
+    Row::start(b"filter").decimal(filter.len() as u64).end();
+    print::differing(b"cell", &empty, filter);
 }
 
 // The verdict's letter, and the mask and header of what is sent.
-pub(crate) fn put_verdict(out: &mut [u8], to: usize, v: Verdict) -> usize {
-    let a = print::letter(out, to, rules::letter_of(v));
+pub(crate) fn put_verdict(row: Row, v: Verdict) -> Row {
+    let row = row.letter(rules::letter_of(v));
     let sending = rules::sending_of(v);
     match sending {
-        Sending::Nothing => print::text(out, a, b" 0000 0 0 0 0"),
+        Sending::Nothing => row.text(b" 0000 0 0 0 0"),
         Sending::Copies(s) => {
-            let a = print::hex(out, a, s.mask as u64, 4);
             let h = s.header;
-            frames::put_header(out, a, h)
+            frames::put_header(row.hex(s.mask as u64, 4), h)
         }
     }
 }
 
-fn put_report(out: &mut [u8], to: usize, r: Report) -> usize {
-    let a = print::text(out, to, b"step");
+fn print_report(r: Report) {
     let v = r.verdict;
-    let a = put_verdict(out, a, v);
-    let a = print::flag(out, a, r.full);
-    let a = print::flag(out, a, r.overwrote);
-    print::newline(out, a)
+    let row = put_verdict(Row::start(b"step"), v);
+    row.flag(r.full).flag(r.overwrote).end();
 }
 
-fn put_answer(out: &mut [u8], to: usize, answer: Answer) -> usize {
+fn print_answer(answer: Answer) {
     match answer {
-        Answer::Refused(n) => print::refused(out, to, n),
-        Answer::Done(r) => put_report(out, to, r),
+        Answer::Refused(n) => print::refused(n),
+        Answer::Done(r) => print_report(r),
     }
 }
 
-fn step_into(
-    s: Switch,
-    filter: &mut [u8],
-    port: u8,
-    frame: &[u8],
-    output: &mut [u8],
-    fill: u8,
-    out: &mut [u8],
-    to: usize,
-) -> usize {
-    print::fill(output, fill);
-    let stepped = s.step(filter, port, frame, output);
+// What a step left, after a refusal too.
+fn print_stepped(stepped: Stepped) {
     let answer = stepped.answer;
     let switch = stepped.switch;
-    let a = put_answer(out, to, answer);
-    let a = put_head(out, a, switch);
-    let a = put_filter(out, a, filter);
-    print::output(out, a, output, fill)
+    print_answer(answer);
+    print_head(switch);
 }
 
-fn step_frame(
-    line: &[u8],
-    at: usize,
-    s: Switch,
-    filter: &mut [u8],
-    port: u8,
-    frame: &[u8],
-    out: &mut [u8],
-    to: usize,
-) -> usize {
+fn step_into(s: Switch, filter: &mut [u8], port: u8, frame: &[u8], output: &mut [u8], fill: u8) {
+    print::fill(output, fill);
+    print_stepped(s.step(filter, port, frame, output));
+    print_filter(filter);
+    print::output(output, fill);
+}
+
+fn step_frame(line: &[u8], at: usize, s: Switch, filter: &mut [u8], port: u8, frame: &[u8]) {
     let o = token::output(line, at);
     if o.next != line.len() {
-        return print::unreadable(out, to);
+        print::line(b"unreadable");
+        return;
     }
     let mut output = [0u8; token::OUTPUT];
     let long = o.length;
-    step_into(
-        s,
-        filter,
-        port,
-        frame,
-        &mut output[0..long],
-        o.fill,
-        out,
-        to,
-    )
+    step_into(s, filter, port, frame, &mut output[0..long], o.fill);
 }
 
-fn step_with(
-    line: &[u8],
-    at: usize,
-    s: Switch,
-    filter: &mut [u8],
-    out: &mut [u8],
-    to: usize,
-) -> usize {
+fn step_with(line: &[u8], at: usize, s: Switch, filter: &mut [u8]) {
     let mut frame = [0u8; token::FRAME];
     let next = token::pieces(line, at, filter);
     let port = token::at_most(line, next, 0xff);
@@ -244,16 +206,14 @@ fn step_with(
         filter,
         port.value as u8,
         token::first(&frame, read.count),
-        out,
-        to,
-    )
+    );
 }
 
-pub(crate) fn step(line: &[u8], at: usize, out: &mut [u8], to: usize) -> usize {
+pub(crate) fn step(line: &[u8], at: usize) {
     let mut filter = [0u8; token::FILTER];
     let h = head(line, at);
     let length = token::at_most(line, h.next, token::FILTER as u64);
     let long = length.value as usize;
     let s = h.switch;
-    step_with(line, length.next, s, &mut filter[0..long], out, to)
+    step_with(line, length.next, s, &mut filter[0..long]);
 }

@@ -2,7 +2,7 @@
 // has the form. The second program answers the same vectors, and what the two print is compared.
 //
 // The one idea: reading and printing take every place and need no premise. A token that can't be
-// read ends at a place that no line has, and a full output is written out. So each call is read
+// read ends at a place that no line has, and a row that is full is written out. So each call is read
 // whole, made, and printed, and only a line that was read to its end is answered.
 ghost use Prim.Native.Nat.{_≤_};
 ghost use lib.ListN.{length};
@@ -19,58 +19,55 @@ mod token;
 // The longest line, its newline and some more: a line that doesn't fit ends the program.
 const INPUT: usize = 262_144;
 
-const OUTPUT: usize = 65_536;
-
 const STANDARD_INPUT: i32 = 0;
 
-// What was read and isn't answered yet is the input from a place on up to another; the output is
-// filled up to a place.
+// What was read and isn't answered yet is the input from a place on up to another.
 struct Places {
     from: usize,
     end: usize,
-    to: usize,
     open: bool,
 }
 
-// The answer to a line, without its last line.
-fn answer(line: &[u8], out: &mut [u8], to: usize) -> usize {
-    if token::starts_with(line, b"step") {
-        return heads::step(line, 4, out, to);
-    }
-    if token::starts_with(line, b"tag") {
-        return frames::tag(line, 3, out, to);
-    }
-    if token::starts_with(line, b"strip") {
-        return frames::strip(line, 5, out, to);
-    }
+// The answer to a line on a stand, without its last line.
+fn answer_stand(line: &[u8]) {
     if token::starts_with(line, b"read") {
-        return stands::read(line, 4, out, to);
+        stands::read(line, 4);
+    } else if token::starts_with(line, b"write") {
+        stands::write(line, 5);
+    } else if token::starts_with(line, b"fresh") {
+        benches::fresh(line, 5);
+    } else if token::starts_with(line, b"event") {
+        benches::event(line, 5);
+    } else if token::starts_with(line, b"run") {
+        runs::run(line, 3);
+    } else {
+        print::line(b"unreadable");
     }
-    if token::starts_with(line, b"write") {
-        return stands::write(line, 5, out, to);
+}
+
+// The answer to a line, without its last line.
+fn answer(line: &[u8]) {
+    if token::starts_with(line, b"step") {
+        heads::step(line, 4);
+    } else if token::starts_with(line, b"tag") {
+        frames::tag(line, 3);
+    } else if token::starts_with(line, b"strip") {
+        frames::strip(line, 5);
+    } else {
+        answer_stand(line);
     }
-    if token::starts_with(line, b"fresh") {
-        return benches::fresh(line, 5, out, to);
-    }
-    if token::starts_with(line, b"event") {
-        return benches::event(line, 5, out, to);
-    }
-    if token::starts_with(line, b"run") {
-        return runs::run(line, 3, out, to);
-    }
-    print::unreadable(out, to)
 }
 
 // The answer to the line from a place on up to another.
-fn answer_part(input: &[u8], from: usize, end: usize, out: &mut [u8], to: usize) -> usize {
+fn answer_part(input: &[u8], from: usize, end: usize) {
     if input.len() < end {
-        return to;
+        return;
     }
     if end < from {
-        return to;
+        return;
     }
-    let a = answer(&input[from..end], out, to);
-    print::text(out, a, b"end\n")
+    answer(&input[from..end]);
+    print::line(b"end");
 }
 
 // The place of the next newline, or the end.
@@ -122,60 +119,50 @@ fn read_behind(input: &mut [u8], place: usize) -> usize {
 }
 
 // Answers the last line, if it has no newline.
-fn answer_last(input: &[u8], end: usize, out: &mut [u8], to: usize) -> usize {
-    if end == 0 {
-        return to;
+fn close(input: &[u8], end: usize) -> Places {
+    if 0 < end {
+        answer_part(input, 0, end);
     }
-    answer_part(input, 0, end, out, to)
-}
-
-// Answers the last line and writes out what is left.
-fn close(input: &[u8], end: usize, out: &mut [u8], to: usize) -> Places {
-    let a = answer_last(input, end, out, to);
-    print::flush(out, a);
     Places {
         from: 0,
         end: 0,
-        to: 0,
         open: false,
     }
 }
 
 // Answers the next line, or reads more where there is none.
-fn turn(input: &mut [u8], out: &mut [u8], p: Places) -> Places {
+fn turn(input: &mut [u8], p: Places) -> Places {
     let end = line_end(input, p.from, p.end);
     if end < p.end {
+        answer_part(input, p.from, end);
         return Places {
             from: end + 1,
             end: p.end,
-            to: answer_part(input, p.from, end, out, p.to),
             open: true,
         };
     }
     let kept = move_down(input, p.from, p.end);
     let end = read_behind(input, kept);
     if end == kept {
-        return close(input, end, out, p.to);
+        return close(input, end);
     }
     Places {
         from: 0,
         end,
-        to: p.to,
         open: true,
     }
 }
 
 // A proved loop has to end, and nothing says that the input does: no run uses up so many turns.
-fn serve(input: &mut [u8], out: &mut [u8]) {
+fn serve(input: &mut [u8]) {
     let mut turns = u64::MAX;
     let mut p = Places {
         from: 0,
         end: 0,
-        to: 0,
         open: true,
     };
     while 0 < turns {
-        p = turn(input, out, p);
+        p = turn(input, p);
         if p.open {
             turns -= 1;
         } else {
@@ -186,6 +173,5 @@ fn serve(input: &mut [u8], out: &mut [u8]) {
 
 fn main() {
     let mut input = [0u8; INPUT];
-    let mut out = [0u8; OUTPUT];
-    serve(&mut input, &mut out);
+    serve(&mut input);
 }

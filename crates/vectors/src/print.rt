@@ -1,95 +1,116 @@
-// Printing into an output that is written out when it is full. Each function says up to where the
-// output is filled. Tokens are put with the space before them.
+// Printing, a line at a time: a row is filled token by token and written out with its newline. Rows
+// are values, so that what prints lends nothing. Tokens are put with the space before them.
 
 ghost use Prim.Native.Nat.{_<_, _≤_};
 use crate::token;
 
 const STANDARD_OUTPUT: i32 = 1;
 
+// Longer than any line; a row that is full all the same is written out, and goes on.
+const ROW: usize = 192;
+
 const PIECE: usize = 10;
 
-// Writes out what the output is filled with.
-pub(crate) fn flush(out: &[u8], to: usize) {
-    io::write_all(STANDARD_OUTPUT, token::first(out, to));
+pub(crate) struct Row {
+    bytes: [u8; ROW],
+    long: usize,
 }
 
-fn byte(out: &mut [u8], to: usize, b: u8) -> usize {
-    if to < out.len() {
-        out[to] = b;
-        return to + 1;
+// Writes out the first bytes.
+pub(crate) fn write(bytes: &[u8], count: usize) {
+    io::write_all(STANDARD_OUTPUT, token::first(bytes, count));
+}
+
+// The place of a row's next byte.
+fn room(bytes: [u8; ROW], long: usize) -> usize
+    ensures { λ r. ⌜ r < 192 ⌝ }
+{
+    if long < ROW {
+        return long;
     }
-    flush(out, to);
-    if 0 < out.len() {
-        out[0] = b;
-        return 1;
-    }
+    write(&bytes, long);
     0
 }
 
-pub(crate) fn text(out: &mut [u8], to: usize, bytes: &[u8]) -> usize {
-    let mut to = to;
-    let mut i: usize = 0;
-    while i < bytes.len() {
-        to = byte(out, to, bytes[i]);
-        i += 1;
+impl Row {
+    pub(crate) fn start(word: &[u8]) -> Row {
+        let empty = Row {
+            bytes: [0u8; ROW],
+            long: 0,
+        };
+        empty.text(word)
     }
-    to
+
+    pub(crate) fn text(self, text: &[u8]) -> Row {
+        let mut bytes = self.bytes;
+        let mut long = self.long;
+        let mut i: usize = 0;
+        while i < text.len() {
+            let at = room(bytes, long);
+            bytes[at] = text[i];
+            long = at + 1;
+            i += 1;
+        }
+        Row { bytes, long }
+    }
+
+    pub(crate) fn letter(self, b: u8) -> Row {
+        let mut token = [b' '; 2];
+        token[1] = b;
+        self.text(&token)
+    }
+
+    pub(crate) fn decimal(self, n: u64) -> Row {
+        let mut digits = [0u8; 20];
+        let count = io::decimal(n, &mut digits);
+        self.text(b" ").text(&digits[..count])
+    }
+
+    fn hex_digits(self, n: u64, width: usize) -> Row {
+        let mut digits = [0u8; 16];
+        let count = io::hex(n, width, &mut digits);
+        self.text(&digits[..count])
+    }
+
+    pub(crate) fn hex(self, n: u64, width: usize) -> Row {
+        self.text(b" ").hex_digits(n, width)
+    }
+
+    pub(crate) fn address(self, n: u64) -> Row {
+        self.hex(n, 16)
+    }
+
+    pub(crate) fn flag(self, b: bool) -> Row {
+        self.decimal(b as u64)
+    }
+
+    // Ten bytes from a place on, or as many as there are.
+    fn piece(self, bytes: &[u8], from: usize) -> Row {
+        let mut row = self;
+        let mut i = from;
+        while i < bytes.len() {
+            if PIECE <= i - from {
+                return row;
+            }
+            row = row.hex_digits(wire::wide(bytes[i]), 2);
+            i += 1;
+        }
+        row
+    }
+
+    pub(crate) fn end(self) {
+        let ended = self.text(b"\n");
+        let bytes = ended.bytes;
+        write(&bytes, ended.long);
+    }
 }
 
-pub(crate) fn newline(out: &mut [u8], to: usize) -> usize {
-    byte(out, to, b'\n')
+pub(crate) fn line(text: &[u8]) {
+    Row::start(text).end();
 }
 
-pub(crate) fn letter(out: &mut [u8], to: usize, b: u8) -> usize {
-    let a = byte(out, to, b' ');
-    byte(out, a, b)
-}
-
-pub(crate) fn decimal(out: &mut [u8], to: usize, n: u64) -> usize {
-    let mut digits = [0u8; 20];
-    let count = io::decimal(n, &mut digits);
-    let a = byte(out, to, b' ');
-    text(out, a, &digits[..count])
-}
-
-// The start of a line: its name and a number.
-pub(crate) fn named(out: &mut [u8], to: usize, name: &[u8], n: u64) -> usize {
-    let a = text(out, to, name);
-    decimal(out, a, n)
-}
-
-// The end of a line: its last number.
-pub(crate) fn last(out: &mut [u8], to: usize, n: u64) -> usize {
-    let a = decimal(out, to, n);
-    newline(out, a)
-}
-
-fn hex_digits(out: &mut [u8], to: usize, n: u64, width: usize) -> usize {
-    let mut digits = [0u8; 16];
-    let count = io::hex(n, width, &mut digits);
-    text(out, to, &digits[..count])
-}
-
-pub(crate) fn hex(out: &mut [u8], to: usize, n: u64, width: usize) -> usize {
-    let a = byte(out, to, b' ');
-    hex_digits(out, a, n, width)
-}
-
-pub(crate) fn address(out: &mut [u8], to: usize, n: u64) -> usize {
-    hex(out, to, n, 16)
-}
-
-pub(crate) fn flag(out: &mut [u8], to: usize, b: bool) -> usize {
-    decimal(out, to, b as u64)
-}
-
-pub(crate) fn unreadable(out: &mut [u8], to: usize) -> usize {
-    text(out, to, b"unreadable\n")
-}
-
-pub(crate) fn refused(out: &mut [u8], to: usize, n: u8) -> usize {
-    let a = text(out, to, b"refused");
-    last(out, a, n as u64)
+pub(crate) fn refused(n: u8) {
+    Row::start(b"refused").decimal(n as u64).end();
 }
 
 // Whether ten bytes from a place on differ.
@@ -107,35 +128,12 @@ fn differs(before: &[u8], after: &[u8], from: usize) -> bool {
     false
 }
 
-fn hex_bytes(out: &mut [u8], to: usize, bytes: &[u8], from: usize) -> usize {
-    let mut to = to;
-    let mut i = from;
-    while i < bytes.len() {
-        if PIECE <= i - from {
-            return to;
-        }
-        to = hex_digits(out, to, wire::wide(bytes[i]), 2);
-        i += 1;
-    }
-    to
-}
-
 // A line for the piece of ten bytes from a place on, if it isn't as before.
-fn piece(
-    out: &mut [u8],
-    to: usize,
-    name: &[u8],
-    before: &[u8],
-    after: &[u8],
-    from: usize,
-) -> usize {
+fn piece(name: &[u8], before: &[u8], after: &[u8], from: usize) {
     if differs(before, after, from) {
-        let a = named(out, to, name, (from / PIECE) as u64);
-        let a = byte(out, a, b' ');
-        let a = hex_bytes(out, a, after, from);
-        return newline(out, a);
+        let row = Row::start(name).decimal((from / PIECE) as u64);
+        row.text(b" ").piece(after, from).end();
     }
-    to
 }
 
 // Where the next piece starts; behind the last one that is the end.
@@ -150,20 +148,12 @@ fn next_piece(from: usize, end: usize) -> usize
 }
 
 // A line for each piece that isn't as before.
-pub(crate) fn differing(
-    out: &mut [u8],
-    to: usize,
-    name: &[u8],
-    before: &[u8],
-    after: &[u8],
-) -> usize {
-    let mut to = to;
+pub(crate) fn differing(name: &[u8], before: &[u8], after: &[u8]) {
     let mut from: usize = 0;
     while from < after.len() {
-        to = piece(out, to, name, before, after, from);
+        piece(name, before, after, from);
         from = next_piece(from, after.len());
     }
-    to
 }
 
 // Byte i of an output before the call.
@@ -175,10 +165,9 @@ pub(crate) fn fill(output: &mut [u8], first: u8) {
     }
 }
 
-pub(crate) fn output(out: &mut [u8], to: usize, output: &[u8], first: u8) -> usize {
+pub(crate) fn output(output: &[u8], first: u8) {
     let mut before = [0u8; token::OUTPUT];
     fill(&mut before, first);
-    let a = text(out, to, b"out");
-    let a = last(out, a, output.len() as u64);
-    differing(out, a, b"piece", &before, output)
+    Row::start(b"out").decimal(output.len() as u64).end();
+    differing(b"piece", &before, output);
 }

@@ -13,34 +13,19 @@ use seat::Seat;
 use table::Table;
 
 fn is_same_port(a: Port, b: Port) -> bool {
-    if a.switch == b.switch {
-        return a.number == b.number;
-    }
-    false
+    (a.switch == b.switch) & (a.number == b.number)
 }
 
 fn is_same_described(a: network::Switch, b: network::Switch) -> bool {
-    if a.ports != b.ports {
-        return false;
-    }
-    if a.limit != b.limit {
-        return false;
-    }
-    a.salt == b.salt
+    (a.ports == b.ports) & (a.limit == b.limit) & (a.salt == b.salt)
 }
 
 fn is_same_host(a: Host, b: Host) -> bool {
-    if a.address == b.address {
-        return is_same_port(a.port, b.port);
-    }
-    false
+    is_same_port(a.port, b.port) & (a.address == b.address)
 }
 
 fn is_same_link(a: Link, b: Link) -> bool {
-    if is_same_port(a.first, b.first) {
-        return is_same_port(a.second, b.second);
-    }
-    false
+    is_same_port(a.first, b.first) & is_same_port(a.second, b.second)
 }
 
 fn are_same_described(
@@ -89,30 +74,20 @@ fn are_same_links(a: [Link; Network::LINKS], b: [Link; Network::LINKS]) -> bool 
 }
 
 fn has_same_counts(a: Network, b: Network) -> bool {
-    if a.nswitches != b.nswitches {
-        return false;
-    }
-    if a.nhosts != b.nhosts {
-        return false;
-    }
-    a.nlinks == b.nlinks
+    (a.nswitches == b.nswitches) & (a.nhosts == b.nhosts) & (a.nlinks == b.nlinks)
 }
 
 fn is_same_network(a: Network, b: Network) -> bool {
     let x = a.switches;
     let y = b.switches;
-    if are_same_described(x, y) {
-        let x = a.hosts;
-        let y = b.hosts;
-        if are_same_hosts(x, y) {
-            let x = a.links;
-            let y = b.links;
-            if are_same_links(x, y) {
-                return has_same_counts(a, b);
-            }
-        }
-    }
-    false
+    let switches = are_same_described(x, y);
+    let x = a.hosts;
+    let y = b.hosts;
+    let hosts = are_same_hosts(x, y);
+    let x = a.links;
+    let y = b.links;
+    let links = are_same_links(x, y);
+    has_same_counts(a, b) & switches & hosts & links
 }
 
 fn are_same_states(a: [bool; Network::LINKS], b: [bool; Network::LINKS]) -> bool {
@@ -128,46 +103,29 @@ fn are_same_states(a: [bool; Network::LINKS], b: [bool; Network::LINKS]) -> bool
 }
 
 fn is_same_setup(a: Setup, b: Setup) -> bool {
-    if a.ports != b.ports {
-        return false;
-    }
-    if a.live != b.live {
-        return false;
-    }
-    if a.host != b.host {
-        return false;
-    }
-    if a.limit != b.limit {
-        return false;
-    }
-    a.salt == b.salt
+    (a.ports == b.ports)
+        & (a.live == b.live)
+        & (a.host == b.host)
+        & (a.limit == b.limit)
+        & (a.salt == b.salt)
 }
 
 fn is_same_table(a: Table, b: Table) -> bool {
     let mut i: usize = 0;
     while i < Table::SLOTS {
-        if a.addresses[i] != b.addresses[i] {
+        let address = a.addresses[i] == b.addresses[i];
+        let port = a.ports[i] == b.ports[i];
+        if address & port & (a.hops[i] == b.hops[i]) {
+            i += 1;
+        } else {
             return false;
         }
-        if a.ports[i] != b.ports[i] {
-            return false;
-        }
-        if a.hops[i] != b.hops[i] {
-            return false;
-        }
-        i += 1;
     }
     true
 }
 
 fn is_same_switch(a: Switch, b: Switch) -> bool {
-    if a.nonce != b.nonce {
-        return false;
-    }
-    if is_same_setup(a.setup, b.setup) {
-        return is_same_table(a.table, b.table);
-    }
-    false
+    (a.nonce == b.nonce) & is_same_setup(a.setup, b.setup) & is_same_table(a.table, b.table)
 }
 
 fn are_same_cells(a: [u8; Seat::CELLS], b: [u8; Seat::CELLS]) -> bool {
@@ -183,12 +141,9 @@ fn are_same_cells(a: [u8; Seat::CELLS], b: [u8; Seat::CELLS]) -> bool {
 }
 
 fn is_same_seat(a: Seat, b: Seat) -> bool {
-    if is_same_switch(a.switch, b.switch) {
-        let x = a.cells;
-        let y = b.cells;
-        return are_same_cells(x, y);
-    }
-    false
+    let x = a.cells;
+    let y = b.cells;
+    is_same_switch(a.switch, b.switch) & are_same_cells(x, y)
 }
 
 fn are_same_seats(a: [Seat; Network::SWITCHES], b: [Seat; Network::SWITCHES]) -> bool {
@@ -206,32 +161,15 @@ fn are_same_seats(a: [Seat; Network::SWITCHES], b: [Seat; Network::SWITCHES]) ->
 }
 
 fn is_same_header(a: Header, b: Header) -> bool {
-    if a.l != b.l {
-        return false;
-    }
-    if a.f != b.f {
-        return false;
-    }
-    if a.hc != b.hc {
-        return false;
-    }
-    a.nonce == b.nonce
+    (a.l == b.l) & (a.f == b.f) & (a.hc == b.hc) & (a.nonce == b.nonce)
 }
 
 fn is_same_copy(a: Copy, b: Copy) -> bool {
-    if a.link != b.link {
-        return false;
-    }
-    if a.second != b.second {
-        return false;
-    }
-    if a.source != b.source {
-        return false;
-    }
-    if a.destination != b.destination {
-        return false;
-    }
     is_same_header(a.header, b.header)
+        & (a.link == b.link)
+        & (a.second == b.second)
+        & (a.source == b.source)
+        & (a.destination == b.destination)
 }
 
 fn are_same_copies(a: [Copy; Copy::MOST], b: [Copy; Copy::MOST]) -> bool {
@@ -249,50 +187,28 @@ fn are_same_copies(a: [Copy; Copy::MOST], b: [Copy; Copy::MOST]) -> bool {
 }
 
 fn is_same_bench(a: Bench, b: Bench) -> bool {
-    if a.flying != b.flying {
-        return false;
-    }
     let x = a.up;
     let y = b.up;
-    if are_same_states(x, y) {
-        let x = a.seats;
-        let y = b.seats;
-        if are_same_seats(x, y) {
-            let x = a.copies;
-            let y = b.copies;
-            if are_same_copies(x, y) {
-                return is_same_network(a.network, b.network);
-            }
-        }
-    }
-    false
+    let up = are_same_states(x, y);
+    let x = a.seats;
+    let y = b.seats;
+    let seats = are_same_seats(x, y);
+    let x = a.copies;
+    let y = b.copies;
+    let copies = are_same_copies(x, y);
+    is_same_network(a.network, b.network) & up & seats & copies & (a.flying == b.flying)
 }
 
 fn are_same_counters(a: Counters, b: Counters) -> bool {
-    if a.placed != b.placed {
-        return false;
-    }
-    if a.taken != b.taken {
-        return false;
-    }
-    if a.cut != b.cut {
-        return false;
-    }
-    if a.lost != b.lost {
-        return false;
-    }
-    if a.delivered != b.delivered {
-        return false;
-    }
-    if a.overwritten != b.overwritten {
-        return false;
-    }
-    a.accepted == b.accepted
+    (a.placed == b.placed)
+        & (a.taken == b.taken)
+        & (a.cut == b.cut)
+        & (a.lost == b.lost)
+        & (a.delivered == b.delivered)
+        & (a.overwritten == b.overwritten)
+        & (a.accepted == b.accepted)
 }
 
 pub(crate) fn is_same(a: Bench, b: Bench, c: Counters, d: Counters) -> bool {
-    if is_same_bench(a, b) {
-        return are_same_counters(c, d);
-    }
-    false
+    is_same_bench(a, b) & are_same_counters(c, d)
 }

@@ -1,5 +1,6 @@
 // A stand's network: read, described, printed.
 use crate::print;
+use crate::print::Row;
 use crate::token;
 use network::Answer;
 use network::Host;
@@ -139,104 +140,82 @@ pub(crate) fn network(line: &[u8], at: usize) -> NetworkRead {
     links(line, b.next, n)
 }
 
-pub(crate) fn put_port(out: &mut [u8], to: usize, p: Port) -> usize {
-    let a = print::decimal(out, to, p.switch as u64);
-    print::decimal(out, a, p.number as u64)
+pub(crate) fn put_port(row: Row, p: Port) -> Row {
+    row.decimal(p.switch as u64).decimal(p.number as u64)
 }
 
-fn put_switch(out: &mut [u8], to: usize, i: usize, s: Switch) -> usize {
-    let a = print::named(out, to, b"switch", i as u64);
-    let a = print::decimal(out, a, s.ports as u64);
-    let a = print::decimal(out, a, s.limit as u64);
-    let a = print::hex(out, a, s.salt as u64, 8);
-    print::newline(out, a)
+fn print_switch(i: usize, s: Switch) {
+    let row = Row::start(b"switch").decimal(i as u64);
+    let row = row.decimal(s.ports as u64).decimal(s.limit as u64);
+    row.hex(s.salt as u64, 8).end();
 }
 
-fn put_host(out: &mut [u8], to: usize, i: usize, h: Host) -> usize {
-    let a = print::named(out, to, b"host", i as u64);
+fn print_host(i: usize, h: Host) {
     let p = h.port;
-    let a = put_port(out, a, p);
-    let a = print::address(out, a, h.address);
-    print::newline(out, a)
+    let row = put_port(Row::start(b"host").decimal(i as u64), p);
+    row.address(h.address).end();
 }
 
-fn put_link(out: &mut [u8], to: usize, i: usize, l: Link) -> usize {
-    let a = print::named(out, to, b"link", i as u64);
+fn print_link(i: usize, l: Link) {
     let p = l.first;
-    let a = put_port(out, a, p);
+    let row = put_port(Row::start(b"link").decimal(i as u64), p);
     let p = l.second;
-    let a = put_port(out, a, p);
-    print::newline(out, a)
+    put_port(row, p).end();
 }
 
-fn put_switches(
-    out: &mut [u8],
-    to: usize,
-    switches: [Switch; Network::SWITCHES],
-    count: u8,
-) -> usize {
-    let mut to = to;
+fn print_switches(switches: [Switch; Network::SWITCHES], count: u8) {
     let mut i: usize = 0;
     while i < Network::SWITCHES {
         if count as usize <= i {
-            return to;
+            return;
         }
         let s = switches[i];
-        to = put_switch(out, to, i, s);
+        print_switch(i, s);
         i += 1;
     }
-    to
 }
 
-fn put_hosts(out: &mut [u8], to: usize, hosts: [Host; Network::HOSTS], count: u8) -> usize {
-    let mut to = to;
+fn print_hosts(hosts: [Host; Network::HOSTS], count: u8) {
     let mut i: usize = 0;
     while i < Network::HOSTS {
         if count as usize <= i {
-            return to;
+            return;
         }
         let h = hosts[i];
-        to = put_host(out, to, i, h);
+        print_host(i, h);
         i += 1;
     }
-    to
 }
 
-fn put_links(out: &mut [u8], to: usize, links: [Link; Network::LINKS], count: u8) -> usize {
-    let mut to = to;
+fn print_links(links: [Link; Network::LINKS], count: u8) {
     let mut i: usize = 0;
     while i < Network::LINKS {
         if count as usize <= i {
-            return to;
+            return;
         }
         let l = links[i];
-        to = put_link(out, to, i, l);
+        print_link(i, l);
         i += 1;
     }
-    to
 }
 
 // The network without what lies behind its counts.
-pub(crate) fn put_network(out: &mut [u8], to: usize, n: Network) -> usize {
-    let a = print::named(out, to, b"network", n.nswitches as u64);
-    let a = print::decimal(out, a, n.nhosts as u64);
-    let a = print::last(out, a, n.nlinks as u64);
+pub(crate) fn print_network(n: Network) {
+    let row = Row::start(b"network").decimal(n.nswitches as u64);
+    row.decimal(n.nhosts as u64).decimal(n.nlinks as u64).end();
     let switches = n.switches;
-    let a = put_switches(out, a, switches, n.nswitches);
+    print_switches(switches, n.nswitches);
     let hosts = n.hosts;
-    let a = put_hosts(out, a, hosts, n.nhosts);
+    print_hosts(hosts, n.nhosts);
     let links = n.links;
-    put_links(out, a, links, n.nlinks)
+    print_links(links, n.nlinks);
 }
 
 // A word and where the description ends, or a refusal.
-fn put_end(out: &mut [u8], to: usize, word: &[u8], answer: Answer) -> usize {
+fn print_end(word: &[u8], answer: Answer) {
     match answer {
-        Answer::Refused(n) => print::refused(out, to, n),
-        Answer::Ends(at) => {
-            let a = print::named(out, to, word, at as u64);
-            print::newline(out, a)
-        }
+        Answer::Refused(n) => print::refused(n),
+        Answer::Ends(at) => Row::start(word).decimal(at as u64).end(),
     }
 }
 
@@ -247,41 +226,42 @@ fn is_refused(answer: Answer) -> bool {
     }
 }
 
-fn read_input(input: &[u8], out: &mut [u8], to: usize) -> usize {
+fn read_input(input: &[u8]) {
     let d = network::read(input);
     let answer = d.answer;
-    let a = put_end(out, to, b"read", answer);
+    print_end(b"read", answer);
     if is_refused(answer) {
-        return a;
+        return;
     }
     let n = d.network;
-    put_network(out, a, n)
+    print_network(n);
 }
 
-pub(crate) fn read(line: &[u8], at: usize, out: &mut [u8], to: usize) -> usize {
+pub(crate) fn read(line: &[u8], at: usize) {
     let mut input = [0u8; token::INPUT];
     let read = token::input(line, at, &mut input);
     if read.next != line.len() {
-        return print::unreadable(out, to);
+        print::line(b"unreadable");
+        return;
     }
-    read_input(token::first(&input, read.count), out, to)
+    read_input(token::first(&input, read.count));
 }
 
-fn write_into(n: Network, output: &mut [u8], fill: u8, out: &mut [u8], to: usize) -> usize {
+fn write_into(n: Network, output: &mut [u8], fill: u8) {
     print::fill(output, fill);
-    let answer = network::write(n, output);
-    let a = put_end(out, to, b"written", answer);
-    print::output(out, a, output, fill)
+    print_end(b"written", network::write(n, output));
+    print::output(output, fill);
 }
 
-pub(crate) fn write(line: &[u8], at: usize, out: &mut [u8], to: usize) -> usize {
+pub(crate) fn write(line: &[u8], at: usize) {
     let read = network(line, at);
     let o = token::output(line, read.next);
     if o.next != line.len() {
-        return print::unreadable(out, to);
+        print::line(b"unreadable");
+        return;
     }
     let mut output = [0u8; token::OUTPUT];
     let long = o.length;
     let n = read.network;
-    write_into(n, &mut output[0..long], o.fill, out, to)
+    write_into(n, &mut output[0..long], o.fill);
 }

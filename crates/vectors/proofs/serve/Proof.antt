@@ -1,4 +1,4 @@
--- The measure is the number of turns that are left; input and output keep their lengths.
+-- The measure is the number of turns that are left; the input keeps its length.
 use borrow.Author.Needs.{needs}
 use lib.ListN.{length}
 use mathlib.Core.Path.{_≡_}
@@ -6,10 +6,10 @@ use Rattle.vectors.proofs.serve.Statement.{statement}
 use Rattle.vectors.proofs.serve.Tie as tie
 
 abbrev Inv-loop : tie.InvT-loop
-Inv-loop input₀ out₀ turns₀ p₀ input out turns p = (length input ≡ length input₀) × (length out ≡ length out₀)
+Inv-loop input₀ turns₀ p₀ input turns p = length input ≡ length input₀
 
 abbrev μ-loop : tie.MeasureT-loop
-μ-loop input₀ out₀ turns₀ p₀ input out turns p = turns
+μ-loop input₀ turns₀ p₀ input turns p = turns
 
 loop-holds : tie.Need-loop-holds Inv-loop μ-loop
 loop-holds c = search needs
@@ -29,17 +29,11 @@ loop-again c = search needs
 same-length : tie.Need-same-length Inv-loop μ-loop
 same-length c = search needs
 
-same-length-2 : tie.Need-same-length-2 Inv-loop μ-loop
-same-length-2 c = search needs
-
 returns : tie.Need-returns Inv-loop μ-loop
 returns c = search needs
 
-same-length-3 : tie.Need-same-length-3 Inv-loop μ-loop
-same-length-3 c = search needs
-
-same-length-4 : tie.Need-same-length-4 Inv-loop μ-loop
-same-length-4 c = search needs
+same-length-2 : tie.Need-same-length-2 Inv-loop μ-loop
+same-length-2 c = search needs
 
 returns-2 : tie.Need-returns-2 Inv-loop μ-loop
 returns-2 c = search needs
@@ -56,8 +50,6 @@ serve-spec =
     loop-less
     loop-again
     same-length
-    same-length-2
     returns
-    same-length-3
-    same-length-4
+    same-length-2
     returns-2)

@@ -1,16 +1,15 @@
--- Each turn goes to where the next piece starts, and the output keeps its length.
+-- Each turn goes to where the next piece starts.
 use Prim.Native.Nat.{_-_}
 use borrow.Author.Needs.{needs}
 use lib.ListN.{length}
-use mathlib.Core.Path.{_≡_}
 use Rattle.vectors.proofs.print.differing.Statement.{statement}
 use Rattle.vectors.proofs.print.differing.Tie as tie
 
 abbrev Inv-loop : tie.InvT-loop
-Inv-loop out₀ to name before after to₀ from₀ out to' from = length out ≡ length out₀
+Inv-loop name before after from₀ from = Unit {0}
 
 abbrev μ-loop : tie.MeasureT-loop
-μ-loop out₀ to name before after to₀ from₀ out to' from = length after - from
+μ-loop name before after from₀ from = length after - from
 
 loop-holds : tie.Need-loop-holds Inv-loop μ-loop
 loop-holds c = search needs
@@ -27,9 +26,6 @@ loop-less c = search needs
 loop-again : tie.Need-loop-again Inv-loop μ-loop
 loop-again c = search needs
 
-same-length : tie.Need-same-length Inv-loop μ-loop
-same-length c = search needs
-
 returns : tie.Need-returns Inv-loop μ-loop
 returns c = search needs
 
@@ -44,5 +40,4 @@ differing-spec =
     next-piece-requires
     loop-less
     loop-again
-    same-length
     returns)

@@ -13,38 +13,29 @@ abbrev μ-loop : tie.MeasureT-loop
 loop-holds : tie.Need-loop-holds Inv-loop μ-loop
 loop-holds c = search needs
 
-mul-if1 : tie.Need-mul-if1 Inv-loop μ-loop
-mul-if1 c = search needs
+mul-address : tie.Need-mul-address Inv-loop μ-loop
+mul-address c = search needs
+
+element-copy-out-address : tie.Need-element-copy-out-address Inv-loop μ-loop
+element-copy-out-address c = search needs
+
+mul-address-2 : tie.Need-mul-address-2 Inv-loop μ-loop
+mul-address-2 c = search needs
+
+element-copy-out-address-2 : tie.Need-element-copy-out-address-2 Inv-loop μ-loop
+element-copy-out-address-2 c = search needs
+
+element-copy-out-port : tie.Need-element-copy-out-port Inv-loop μ-loop
+element-copy-out-port c = search needs
+
+element-copy-out-port-2 : tie.Need-element-copy-out-port-2 Inv-loop μ-loop
+element-copy-out-port-2 c = search needs
 
 element-copy-out-if1 : tie.Need-element-copy-out-if1 Inv-loop μ-loop
 element-copy-out-if1 c = search needs
 
-mul-if1-2 : tie.Need-mul-if1-2 Inv-loop μ-loop
-mul-if1-2 c = search needs
-
 element-copy-out-if1-2 : tie.Need-element-copy-out-if1-2 Inv-loop μ-loop
 element-copy-out-if1-2 c = search needs
-
-returns : tie.Need-returns Inv-loop μ-loop
-returns c = search needs
-
-element-copy-out-if2 : tie.Need-element-copy-out-if2 Inv-loop μ-loop
-element-copy-out-if2 c = search needs
-
-element-copy-out-if2-2 : tie.Need-element-copy-out-if2-2 Inv-loop μ-loop
-element-copy-out-if2-2 c = search needs
-
-returns-2 : tie.Need-returns-2 Inv-loop μ-loop
-returns-2 c = search needs
-
-element-copy-out-if3 : tie.Need-element-copy-out-if3 Inv-loop μ-loop
-element-copy-out-if3 c = search needs
-
-element-copy-out-if3-2 : tie.Need-element-copy-out-if3-2 Inv-loop μ-loop
-element-copy-out-if3-2 c = search needs
-
-returns-3 : tie.Need-returns-3 Inv-loop μ-loop
-returns-3 c = search needs
 
 add-i : tie.Need-add-i Inv-loop μ-loop
 add-i c = search needs
@@ -55,8 +46,11 @@ loop-less c = search needs
 loop-again : tie.Need-loop-again Inv-loop μ-loop
 loop-again c = search needs
 
-returns-4 : tie.Need-returns-4 Inv-loop μ-loop
-returns-4 c = search needs
+returns : tie.Need-returns Inv-loop μ-loop
+returns c = search needs
+
+returns-2 : tie.Need-returns-2 Inv-loop μ-loop
+returns-2 c = search needs
 
 pub is-same-table-spec : {M : Type 1} → statement M
 is-same-table-spec =
@@ -65,18 +59,16 @@ is-same-table-spec =
     Inv-loop
     μ-loop
     loop-holds
-    mul-if1
+    mul-address
+    element-copy-out-address
+    mul-address-2
+    element-copy-out-address-2
+    element-copy-out-port
+    element-copy-out-port-2
     element-copy-out-if1
-    mul-if1-2
     element-copy-out-if1-2
-    returns
-    element-copy-out-if2
-    element-copy-out-if2-2
-    returns-2
-    element-copy-out-if3
-    element-copy-out-if3-2
-    returns-3
     add-i
     loop-less
     loop-again
-    returns-4)
+    returns
+    returns-2)

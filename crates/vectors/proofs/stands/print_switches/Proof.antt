@@ -1,22 +1,17 @@
--- Each turn prints one switch, and the output keeps its length.
+-- Each turn prints one switch.
 use Prim.Native.Nat.{_-_}
 use borrow.Author.Needs.{needs}
-use lib.ListN.{length}
-use mathlib.Core.Path.{_≡_}
-use Rattle.vectors.proofs.stands.put_switches.Statement.{statement}
-use Rattle.vectors.proofs.stands.put_switches.Tie as tie
+use Rattle.vectors.proofs.stands.print_switches.Statement.{statement}
+use Rattle.vectors.proofs.stands.print_switches.Tie as tie
 
 abbrev Inv-loop : tie.InvT-loop
-Inv-loop out₀ to count switches to₀ i₀ out to' i = length out ≡ length out₀
+Inv-loop count switches i₀ i = Unit {0}
 
 abbrev μ-loop : tie.MeasureT-loop
-μ-loop out₀ to count switches to₀ i₀ out to' i = 16 - i
+μ-loop count switches i₀ i = 16 - i
 
 loop-holds : tie.Need-loop-holds Inv-loop μ-loop
 loop-holds c = search needs
-
-same-length : tie.Need-same-length Inv-loop μ-loop
-same-length c = search needs
 
 returns : tie.Need-returns Inv-loop μ-loop
 returns c = search needs
@@ -27,8 +22,8 @@ mul-s c = search needs
 array-copy-out-s : tie.Need-array-copy-out-s Inv-loop μ-loop
 array-copy-out-s c = search needs
 
-put-switch-requires : tie.Need-put-switch-requires Inv-loop μ-loop
-put-switch-requires c κs = search needs
+print-switch-requires : tie.Need-print-switch-requires Inv-loop μ-loop
+print-switch-requires c κs = search needs
 
 add-i : tie.Need-add-i Inv-loop μ-loop
 add-i c = search needs
@@ -39,26 +34,21 @@ loop-less c = search needs
 loop-again : tie.Need-loop-again Inv-loop μ-loop
 loop-again c = search needs
 
-same-length-2 : tie.Need-same-length-2 Inv-loop μ-loop
-same-length-2 c = search needs
-
 returns-2 : tie.Need-returns-2 Inv-loop μ-loop
 returns-2 c = search needs
 
-pub put-switches-spec : {M : Type 1} → statement M
-put-switches-spec =
+pub print-switches-spec : {M : Type 1} → statement M
+print-switches-spec =
     tie.close
     (tie.spec
     Inv-loop
     μ-loop
     loop-holds
-    same-length
     returns
     mul-s
     array-copy-out-s
-    put-switch-requires
+    print-switch-requires
     add-i
     loop-less
     loop-again
-    same-length-2
     returns-2)

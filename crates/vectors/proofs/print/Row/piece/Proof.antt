@@ -1,25 +1,21 @@
--- Each turn prints one byte, and the output keeps its length.
+-- Each turn puts one byte, from the place on.
 use Prim.Native.Nat.{_≤_, _-_}
-use borrow.Author.Needs.{needs}
 use lib.ListN.{length}
-use mathlib.Core.Path.{_≡_}
-use Rattle.vectors.proofs.print.hex_bytes.Statement.{statement}
-use Rattle.vectors.proofs.print.hex_bytes.Tie as tie
+use borrow.Author.Needs.{needs}
+use Rattle.vectors.proofs.print.Row.piece.Statement.{statement}
+use Rattle.vectors.proofs.print.Row.piece.Tie as tie
 
 abbrev Inv-loop : tie.InvT-loop
-Inv-loop out₀ to bytes from to₀ i₀ out to' i = (from ≤ i) × (length out ≡ length out₀)
+Inv-loop bytes from row₀ i₀ row i = from ≤ i
 
 abbrev μ-loop : tie.MeasureT-loop
-μ-loop out₀ to bytes from to₀ i₀ out to' i = length bytes - i
+μ-loop bytes from row₀ i₀ row i = length bytes - i
 
 loop-holds : tie.Need-loop-holds Inv-loop μ-loop
 loop-holds c = search needs
 
 sub-if1 : tie.Need-sub-if1 Inv-loop μ-loop
 sub-if1 c = search needs
-
-same-length : tie.Need-same-length Inv-loop μ-loop
-same-length c = search needs
 
 returns : tie.Need-returns Inv-loop μ-loop
 returns c = search needs
@@ -42,21 +38,17 @@ loop-less c = search needs
 loop-again : tie.Need-loop-again Inv-loop μ-loop
 loop-again c = search needs
 
-same-length-2 : tie.Need-same-length-2 Inv-loop μ-loop
-same-length-2 c = search needs
-
 returns-2 : tie.Need-returns-2 Inv-loop μ-loop
 returns-2 c = search needs
 
-pub hex-bytes-spec : {M : Type 1} → statement M
-hex-bytes-spec =
+pub piece-spec : {M : Type 1} → statement M
+piece-spec =
     tie.close
     (tie.spec
     Inv-loop
     μ-loop
     loop-holds
     sub-if1
-    same-length
     returns
     shared-slice-read-wide
     wide-requires
@@ -64,5 +56,4 @@ hex-bytes-spec =
     add-i
     loop-less
     loop-again
-    same-length-2
     returns-2)

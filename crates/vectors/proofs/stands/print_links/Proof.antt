@@ -1,22 +1,17 @@
--- Each turn prints one link, and the output keeps its length.
+-- Each turn prints one link.
 use Prim.Native.Nat.{_-_}
 use borrow.Author.Needs.{needs}
-use lib.ListN.{length}
-use mathlib.Core.Path.{_≡_}
-use Rattle.vectors.proofs.stands.put_links.Statement.{statement}
-use Rattle.vectors.proofs.stands.put_links.Tie as tie
+use Rattle.vectors.proofs.stands.print_links.Statement.{statement}
+use Rattle.vectors.proofs.stands.print_links.Tie as tie
 
 abbrev Inv-loop : tie.InvT-loop
-Inv-loop out₀ to count links to₀ i₀ out to' i = length out ≡ length out₀
+Inv-loop count links i₀ i = Unit {0}
 
 abbrev μ-loop : tie.MeasureT-loop
-μ-loop out₀ to count links to₀ i₀ out to' i = 64 - i
+μ-loop count links i₀ i = 64 - i
 
 loop-holds : tie.Need-loop-holds Inv-loop μ-loop
 loop-holds c = search needs
-
-same-length : tie.Need-same-length Inv-loop μ-loop
-same-length c = search needs
 
 returns : tie.Need-returns Inv-loop μ-loop
 returns c = search needs
@@ -27,8 +22,8 @@ mul-l c = search needs
 array-copy-out-l : tie.Need-array-copy-out-l Inv-loop μ-loop
 array-copy-out-l c = search needs
 
-put-link-requires : tie.Need-put-link-requires Inv-loop μ-loop
-put-link-requires c κs = search needs
+print-link-requires : tie.Need-print-link-requires Inv-loop μ-loop
+print-link-requires c κs = search needs
 
 add-i : tie.Need-add-i Inv-loop μ-loop
 add-i c = search needs
@@ -39,26 +34,21 @@ loop-less c = search needs
 loop-again : tie.Need-loop-again Inv-loop μ-loop
 loop-again c = search needs
 
-same-length-2 : tie.Need-same-length-2 Inv-loop μ-loop
-same-length-2 c = search needs
-
 returns-2 : tie.Need-returns-2 Inv-loop μ-loop
 returns-2 c = search needs
 
-pub put-links-spec : {M : Type 1} → statement M
-put-links-spec =
+pub print-links-spec : {M : Type 1} → statement M
+print-links-spec =
     tie.close
     (tie.spec
     Inv-loop
     μ-loop
     loop-holds
-    same-length
     returns
     mul-l
     array-copy-out-l
-    put-link-requires
+    print-link-requires
     add-i
     loop-less
     loop-again
-    same-length-2
     returns-2)
