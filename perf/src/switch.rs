@@ -164,28 +164,32 @@ impl Switch {
         }
     }
 
-    fn slot_fits(&self, slot: usize) -> bool {
-        let (address, port, hops) = (self.addresses[slot], self.ports[slot], self.hops[slot]);
-        if address == 0 {
-            return port == 0 && hops == 0;
-        }
-        is_source(address) && port < self.setup.ports && (1..=62).contains(&hops)
-    }
-
-    /// Whether an address stands twice, by a small hash table with open addressing.
-    fn has_twice(&self) -> bool {
+    /// Whether each slot is empty or holds what it may, and no address stands twice: one pass
+    /// with a small hash table.
+    fn table_fits(&self) -> bool {
         let mut seen = [0u64; 2 * SLOTS];
-        for &address in self.addresses.iter().filter(|&&a| a != 0) {
+        for slot in 0..SLOTS {
+            let (address, port, hops) =
+                (self.addresses[slot], self.ports[slot], self.hops[slot]);
+            if address == 0 {
+                if port != 0 || hops != 0 {
+                    return false;
+                }
+                continue;
+            }
+            if !is_source(address) || port >= self.setup.ports || !(1..=62).contains(&hops) {
+                return false;
+            }
             let mut at = (address.wrapping_mul(0x9E37_79B9_7F4A_7C15) >> 57) as usize;
             while seen[at] != 0 {
                 if seen[at] == address {
-                    return true;
+                    return false;
                 }
                 at = (at + 1) % (2 * SLOTS);
             }
             seen[at] = address;
         }
-        false
+        true
     }
 
     /// Refusal 1.
@@ -196,8 +200,7 @@ impl Switch {
             || names_beyond(s.ports, s.host)
             || !(1..=62).contains(&s.limit)
             || self.nonce >= NONCES
-            || !(0..SLOTS).all(|slot| self.slot_fits(slot))
-            || self.has_twice()
+            || !self.table_fits()
             || !filter_fits(filter)
     }
 
