@@ -1,11 +1,10 @@
 -- What an accepted event answers: it counts once, a step sends to at most 8 ports, and every copy that comes or goes is counted.
 use Prim.Native.Nat.{_+_, _≤_}
 use mathlib.Core.Path.{_≡_, refl, ap}
-use mathlib.Core.Bool.{Bool, true, false}
 use native.Mathlib.Omega.{arith}
 use lib.ListN.{length}
 use lib.Seq.{length-take-le}
-use Rattle.frame.specs.Header.{bit}
+use Rattle.frame.proofs.Laws.{bit-small}
 use Rattle.event.specs.declared.Event.{Event}
 use Rattle.event.specs.declared.Event.the-variants.{Present, Take, Link}
 use Rattle.turn.specs.declared.Answer.{Answer}
@@ -32,11 +31,7 @@ at-most-one c e (Linked cut) = omega arith
 -- and overwrites once at most
 pub one-overwritten : (a : Answer) → overwrittenBy a ≤ 1
 one-overwritten (Refused n) = omega arith
-one-overwritten (Stepped r) = by-flag (r .overwrote)
-  where
-    by-flag : (b : Bool) → bit b ≤ 1
-    by-flag true = omega arith
-    by-flag false = omega arith
+one-overwritten (Stepped r) = bit-small (r .overwrote)
 one-overwritten (Linked cut) = omega arith
 
 -- ---- An accepted event's

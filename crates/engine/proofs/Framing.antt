@@ -14,7 +14,7 @@ use Rattle.frame.specs.declared.Stripping.the-variants.{Refused as NotStripped,
 use Rattle.frame.specs.Header.{headerValues}
 use Rattle.frame.specs.Frame.{headerIn, stripAnswer, stripOutput, stripRefusal, tagAnswer, tagOutput, tagRefusal, toldStripping, toldTagging}
 use Rattle.engine.specs.Frames.{StripsLent, TagsLent}
-use Rattle.engine.proofs.Putting.{flag}
+use Rattle.frame.proofs.Laws.{flag-bit}
 use Rattle.engine.proofs.Telling.{tells, tells-given, tells-kept, tells-number}
 
 module _ {frame out out′ : List ℕ} {h : Header} {a : Tagging} (told : toldTagging a ≡ tagAnswer frame h (length out)) (output : out′ ≡ tagOutput frame h out) where
@@ -46,7 +46,7 @@ module _ {frame out out′ : List ℕ} {a : Stripping} (told : toldStripping a �
       → StripsLent frame out held 0 out′ (host .len ∷ boolByte (host .header .l) ∷ boolByte (host .header .f) ∷ host .header .hc ∷ host .header .nonce ∷ [])
   strips-done {host} {held} e =
       let t = rw e at told in
-      rw (flag (host .header .l), flag (host .header .f)) (record {
+      rw (flag-bit (host .header .l), flag-bit (host .header .f)) (record {
         number = tells-number 0 _ _ _ t;
         output = output;
         told = tells-given (stripRefusal frame (length out)) _ (host .len ∷ headerValues (host .header)) held t;

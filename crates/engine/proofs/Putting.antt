@@ -1,15 +1,12 @@
--- Numbers put into a buffer one behind the other, and a flag's number.
+-- Numbers put into a buffer one behind the other.
 use mathlib.Core.Path.{_≡_, refl, sym, ap, _∙_}
-use mathlib.Core.Bool.{Bool, true, false}
 use mathlib.Core.List.{List, [], _∷_, _++_}
 use Prim.Native.Nat.{ℕ, suc, _+_, _≤_, _<_}
 use native.Mathlib.Numerals.{add-one}
 use native.Mathlib.Omega.{arith}
 use lib.ListN.{length, getD, set, take, length-set, replicate-append-replicate}
 use lib.Seq.{take-suc, take-suc-set, take-all}
-use mir.Val.{boolByte}
 use Rattle.filter.specs.Filter.{zeros}
-use Rattle.frame.specs.Header.{bit}
 
 -- so many numbers are put, and the buffer is as long as what is put
 pub record Putting (numbers buffer : List ℕ) (i : ℕ) : Type 0 where
@@ -54,7 +51,3 @@ module _ {before buffer : List ℕ} where
   clearing-ends {i} p h =
       let all : i ≡ length before = omega (arith, p .long, p .within) in
       sym (take-all i buffer h) ∙ p .so-far ∙ ap zeros all
-
-pub flag : (b : Bool) → boolByte b ≡ bit b
-flag true = refl
-flag false = refl

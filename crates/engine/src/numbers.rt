@@ -1,13 +1,7 @@
-// What the answers are made of: arrays of numbers, and a verdict's mask and header.
+// Numbers put into what is lent.
 ghost use mathlib.Core.Path.{_≡_};
 ghost use lib.ListN.{length};
 ghost use Rattle.filter.specs.Filter.{zeros};
-ghost use Rattle.rules.specs.Verdict.{noHeader, sendingOf, sentBy};
-use frame::Header;
-use rules::Send;
-use rules::Sending;
-use rules::Verdict;
-use rules::sending_of;
 
 // Puts numbers into a buffer of as many.
 pub fn put(buffer: &mut [u64], numbers: &[u64])
@@ -29,24 +23,5 @@ pub fn clear(buffer: &mut [u8])
     while i < buffer.len() {
         buffer[i] = 0;
         i += 1;
-    }
-}
-
-// The mask and the header of what a verdict sends: 0 after a drop.
-pub fn sent_by(v: Verdict) -> Send
-    ensures { λ r. ⌜ r ≡ sentBy (sendingOf v) ⌝ }
-{
-    let sending = sending_of(v);
-    match sending {
-        Sending::Nothing => Send {
-            mask: 0,
-            header: Header {
-                l: false,
-                f: false,
-                hc: 0,
-                nonce: 0,
-            },
-        },
-        Sending::Copies(s) => s,
     }
 }

@@ -1,24 +1,14 @@
 -- A copy in three words: each part is read back from bits of its own.
-use Prim.Native.Nat.{ℕ, _+_, _*_, _/_, _%_, _^_, _<_, _≤_}
-use mathlib.Core.Path.{_≡_, refl}
+use Prim.Native.Nat.{ℕ, _+_, _*_, _/_, _%_, _^_, _<_}
+use mathlib.Core.Path.{_≡_}
 use mathlib.Core.Bool.{Bool, true, false}
 use mathlib.Core.List.{[], _∷_}
 use native.Mathlib.Omega.{arith}
 use lib.Dec.{eqb}
-use mir.Val.{boolByte}
 use borrow.Author.Tests.{eq-eqb, ne-eqb}
 use Rattle.frame.specs.Header.{bit}
+use Rattle.frame.proofs.Laws.{bit-small}
 use Rattle.flight.specs.Flight.{unpack}
-
--- a bool as a number is its bit
-pub byte-bit : (b : Bool) → boolByte b ≡ bit b
-byte-bit true = refl
-byte-bit false = refl
-
--- and at most 1
-pub byte-small : (b : Bool) → boolByte b ≤ 1
-byte-small true = omega arith
-byte-small false = omega arith
 
 bit-read : (n : ℕ) (b : Bool) → n ≡ bit b → eqb n 1 ≡ b
 bit-read n true e = eq-eqb n 1 e
@@ -28,27 +18,23 @@ module _ (link hc nonce : ℕ) (second l f : Bool) (small : link < 2 ^ 8) (hops 
   abbrev rest : ℕ
   rest = link + 2 ^ 8 * (bit second + 2 * bit l + 4 * bit f) + 2 ^ 11 * hc + 2 ^ 19 * nonce
 
-  one-bit : (b : Bool) → bit b ≤ 1
-  one-bit true = omega arith
-  one-bit false = omega arith
-
   link-read : rest % 2 ^ 8 ≡ link
-  link-read = omega (arith, one-bit second, one-bit l, one-bit f)
+  link-read = omega (arith, bit-small second, bit-small l, bit-small f)
 
   second-read : eqb (rest / 2 ^ 8 % 2) 1 ≡ second
-  second-read = bit-read (rest / 2 ^ 8 % 2) second (omega (arith, one-bit second, one-bit l, one-bit f))
+  second-read = bit-read (rest / 2 ^ 8 % 2) second (omega (arith, bit-small second, bit-small l, bit-small f))
 
   l-read : eqb (rest / 2 ^ 9 % 2) 1 ≡ l
-  l-read = bit-read (rest / 2 ^ 9 % 2) l (omega (arith, one-bit second, one-bit l, one-bit f))
+  l-read = bit-read (rest / 2 ^ 9 % 2) l (omega (arith, bit-small second, bit-small l, bit-small f))
 
   f-read : eqb (rest / 2 ^ 10 % 2) 1 ≡ f
-  f-read = bit-read (rest / 2 ^ 10 % 2) f (omega (arith, one-bit second, one-bit l, one-bit f))
+  f-read = bit-read (rest / 2 ^ 10 % 2) f (omega (arith, bit-small second, bit-small l, bit-small f))
 
   hc-read : rest / 2 ^ 11 % 2 ^ 8 ≡ hc
-  hc-read = omega (arith, one-bit second, one-bit l, one-bit f)
+  hc-read = omega (arith, bit-small second, bit-small l, bit-small f)
 
   nonce-read : rest / 2 ^ 19 % 2 ^ 32 ≡ nonce
-  nonce-read = omega (arith, one-bit second, one-bit l, one-bit f)
+  nonce-read = omega (arith, bit-small second, bit-small l, bit-small f)
 
   pub read-back : (source destination : ℕ) → unpack (source ∷ destination ∷ rest ∷ [])
       ≡ record { link = link; second = second; source = source; destination = destination; header = record { l = l; f = f; hc = hc; nonce = nonce } }

@@ -1,13 +1,14 @@
 -- Laws of tagging and stripping that callers cite.
-use mathlib.Core.Path.{_≡_}
-use mathlib.Core.Bool.{true}
+use mathlib.Core.Path.{_≡_, refl}
+use mathlib.Core.Bool.{Bool, true, false}
 use mathlib.Core.List.{List}
 use Prim.Native.Nat.{ℕ, _+_, _-_, _≤_, _<_, _^_}
 use native.Mathlib.Omega.{arith}
 use lib.Dec.{eqb, ltb, leb}
 use lib.ListN.{length, take, drop, length-take}
 use lib.Seq.{take-at, drop-at}
-use Rattle.frame.specs.Header.{headerOf}
+use mir.Val.{boolByte}
+use Rattle.frame.specs.Header.{bit, headerOf}
 use borrow.Author.Tests.{le-leb, le-ltb, lt-leb, eq-eqb, ne-eqb, ltb-false, leb-false, eqb-true, eqb-false, not-false}
 use Rattle.refusal.specs.Exact.{Numbered}
 use Rattle.refusal.proofs.Laws.{inTurn, in-order, none-holds, inside, not-outside, neither}
@@ -26,6 +27,18 @@ unfolding tagged stripped
 new-header frame h long =
     let head : length (take 12 frame) ≡ 12 = simp length-take (omega arith) in
     rw (take-at (take 12 frame) (drop 18 frame) 12 head, drop-at (take 12 frame) (drop 18 frame) 12 head)
+
+-- a flag's byte is its bit
+pub flag-bit : (b : Bool) → boolByte b ≡ bit b
+flag-bit true = refl
+flag-bit false = refl
+
+pub bit-small : (b : Bool) → bit b ≤ 1
+bit-small true = omega arith
+bit-small false = omega arith
+
+pub flag-small : (b : Bool) → boolByte b ≤ 1
+flag-small b = rw (flag-bit b) (bit-small b)
 
 -- a hop count that was read has six bits
 pub hc-small : (bs : List ℕ) → headerOf bs .hc < 64

@@ -11,9 +11,7 @@ use Rattle.network.specs.declared.Port.{Port}
 use Rattle.network.specs.Format.{portIn}
 use Rattle.flight.specs.declared.Copy.{Copy}
 use Rattle.flight.specs.Flight.{unpack}
-use Rattle.frame.specs.Header.{bit}
-use mir.Val.{boolByte}
-use mathlib.Core.Bool.{Bool, true, false, _&&_, and-eq-true-iff}
+use mathlib.Core.Bool.{true, _&&_, and-eq-true-iff}
 use lib.Dec.{eqb}
 use borrow.Author.Tests.{eqb-true}
 use Rattle.table.specs.Table.{slots, tableOf}
@@ -138,8 +136,3 @@ pub copy-is : (l : List ℕ) (i : ℕ) {c : Copy} → copiesAt + 3 * i + 3 ≤ l
     → c ≡ unpack (getD l (copiesAt + 3 * i) 0 ∷ getD l (copiesAt + 3 * i + 1) 0 ∷ getD l (copiesAt + 3 * i + 2) 0 ∷ []) → c ≡ copyIn l i
 unfolding copyIn
 copy-is l i h e = e ∙ ap unpack (three-there l (copiesAt + 3 * i) h)
-
--- a state as a number
-pub state-byte : (b : Bool) → boolByte b ≡ bit b
-state-byte true = refl
-state-byte false = refl

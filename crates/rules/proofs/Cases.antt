@@ -7,18 +7,13 @@ use mir.Val.{boolByte}
 use Rattle.table.specs.declared.Table.{Table}
 use Rattle.table.specs.declared.Found.{Found}
 use Rattle.filter.specs.Triple.{triple}
-use Rattle.frame.specs.Header.{bit}
+use Rattle.frame.proofs.Laws.{flag-bit}
 use Rattle.table.specs.Table.{learnedOf}
 use Rattle.rules.specs.Rules.{plainly, tripleOf, flood, sends, reading, rule5, rule6, learning, onward, forwarding, isDuplicate, overwrote3, rule3, left, ruledAs, reportOf, fromLearning}
 use Rattle.rules.specs.declared.Outcome.{Outcome}
 use Rattle.rules.specs.declared.Setup.{Setup}
 use Rattle.rules.specs.declared.Arrival.{Arrival}
 use Rattle.rules.specs.declared.Verdict.the-variants.{F}
-
--- a flag cast to a byte
-pub flag-byte : (b : Bool) → boolByte b ≡ bit b
-flag-byte true = refl
-flag-byte false = refl
 
 pub and-true : (b : Bool) → b ≡ (b && true)
 and-true true = refl
@@ -30,7 +25,7 @@ and-false false = refl
 
 -- the key that the code makes of an arrival is its triple
 pub triple-key : (a : Arrival) {key : List ℕ} → key ≡ triple (a .source) (a .header .nonce) (boolByte (a .header .l)) → key ≡ tripleOf a (a .header)
-triple-key a e = e ∙ ap (λ l. triple (a .source) (a .header .nonce) l) (flag-byte (a .header .l))
+triple-key a e = e ∙ ap (λ l. triple (a .source) (a .header .nonce) l) (flag-bit (a .header .l))
 
 -- rule 6 finds the table as rule 5 left it, and the entry as it was read
 pub learning-by : (t u : Table) (a : Arrival) (dup : Bool) (found : Found) → u ≡ rule5 t a dup found → found ≡ reading t a → rule6 u a dup found ≡ learning t a dup

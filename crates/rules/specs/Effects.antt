@@ -1,5 +1,5 @@
 -- What rules 3 and 6 leave behind them, said of a flood's copy within the limit and of the rules as a whole: a switch that hands back table and filter
--- untouched doesn't meet it. Each statement is a type; proofs/Laws has its term, under the same name in lower case.
+-- untouched doesn't meet it. Each statement is a type; proofs/Effects has its term, under the same name in lower case.
 use mathlib.Core.Path.{_≡_}
 use mathlib.Core.Logic.{_≢_, _⊎_}
 use mathlib.Core.Bool.{Bool, true, false}

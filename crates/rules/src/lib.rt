@@ -11,7 +11,7 @@ ghost use Rattle.frame.specs.Frame.{headerIn};
 ghost use Rattle.table.specs.Table.{Sized, learnedOf, tableOf};
 ghost use Rattle.table.specs.declared.Table.{Table};
 ghost use Rattle.rules.specs.Rules as spec;
-ghost use Rattle.rules.specs.Verdict.{letterOf, sendingOf};
+ghost use Rattle.rules.specs.Verdict.{letterOf, sendingOf, sentBy};
 use filter::Recorded;
 use frame::Frame;
 use frame::Header;
@@ -89,6 +89,25 @@ pub fn sending_of(v: Verdict) -> Sending
         Verdict::B(s) => Sending::Copies(s),
         Verdict::H(s) => Sending::Copies(s),
         Verdict::U(s) => Sending::Copies(s),
+    }
+}
+
+// The mask and the header of what a verdict sends: 0 after a drop.
+pub fn sent_by(v: Verdict) -> Send
+    ensures { λ r. ⌜ r ≡ sentBy (sendingOf v) ⌝ }
+{
+    let sending = sending_of(v);
+    match sending {
+        Sending::Nothing => Send {
+            mask: 0,
+            header: Header {
+                l: false,
+                f: false,
+                hc: 0,
+                nonce: 0,
+            },
+        },
+        Sending::Copies(s) => s,
     }
 }
 

@@ -8,7 +8,6 @@ use head::Answer;
 use head::Stepped;
 use head::Switch;
 use rules::Report;
-use rules::Sending;
 use rules::Setup;
 use rules::Verdict;
 use table::Table;
@@ -145,14 +144,9 @@ pub(crate) fn print_filter(filter: &[u8]) {
 // The verdict's letter, and the mask and header of what is sent.
 pub(crate) fn put_verdict(row: Row, v: Verdict) -> Row {
     let row = row.letter(rules::letter_of(v));
-    let sending = rules::sending_of(v);
-    match sending {
-        Sending::Nothing => row.text(b" 0000 0 0 0 0"),
-        Sending::Copies(s) => {
-            let h = s.header;
-            frames::put_header(row.hex(s.mask as u64, 4), h)
-        }
-    }
+    let s = rules::sent_by(v);
+    let h = s.header;
+    frames::put_header(row.hex(s.mask as u64, 4), h)
 }
 
 fn print_report(r: Report) {

@@ -2,7 +2,7 @@
 use mathlib.Core.Path.{_∙_}
 use Prim.Native.Nat.{_^_, _<_}
 use native.Mathlib.Omega.{arith}
-use Rattle.counters.proofs.Adding.{flag-bit, flag-small}
+use Rattle.frame.proofs.Laws.{flag-bit, flag-small}
 use lib.Count.{ones-le}
 use Rattle.counters.specs.Counters.{adds}
 use borrow.Author.Needs.{needs}

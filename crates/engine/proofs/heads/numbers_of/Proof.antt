@@ -1,4 +1,4 @@
-use Rattle.engine.proofs.Putting.{flag}
+use Rattle.frame.proofs.Laws.{flag-bit}
 use borrow.Author.Needs.{needs}
 use Rattle.engine.proofs.heads.numbers_of.Statement.{statement}
 use Rattle.engine.proofs.heads.numbers_of.Tie as tie
@@ -34,7 +34,7 @@ cast-t13 : tie.Need-cast-t13
 cast-t13 c = search needs
 
 returns : tie.Need-returns
-returns c = simp (flag, c .before .before .before .before .before .letter-of .ensures, c .before .before .before .before .before .before .before .before .before .sent-by .ensures)
+returns c = simp (flag-bit, c .before .before .before .before .before .letter-of .ensures, c .before .before .before .before .before .before .before .before .before .sent-by .ensures)
 
 pub numbers-of-spec : {M : Type 1} → statement M
 numbers-of-spec =

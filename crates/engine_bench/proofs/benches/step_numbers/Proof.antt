@@ -1,5 +1,5 @@
 -- A report's numbers, the verdict's behind them.
-use Rattle.engine.proofs.Putting.{flag}
+use Rattle.frame.proofs.Laws.{flag-bit}
 use borrow.Author.Needs.{needs}
 use Rattle.engine_bench.proofs.benches.step_numbers.Statement.{statement}
 use Rattle.engine_bench.proofs.benches.step_numbers.Tie as tie
@@ -47,7 +47,7 @@ cast-t17 : tie.Need-cast-t17
 cast-t17 c = search needs
 
 returns : tie.Need-returns
-returns c = simp (flag, c .before .before .before .before .before .letter-of .ensures, c .before .before .before .before .before .before .before .before .before .before .before .before .before .sent-by .ensures)
+returns c = simp (flag-bit, c .before .before .before .before .before .letter-of .ensures, c .before .before .before .before .before .before .before .before .before .before .before .before .before .sent-by .ensures)
 
 pub step-numbers-spec : {M : Type 1} → statement M
 step-numbers-spec =

@@ -6,7 +6,7 @@ use lib.ListN.{getD, length}
 use Rattle.layout.proofs.Loops.{Column, column-end, column-next, rows-start}
 use mathlib.Core.Bool.{false}
 use Rattle.frame.specs.Header.{bit}
-use Rattle.layout.proofs.Laws.{state-byte}
+use Rattle.frame.proofs.Laws.{flag-bit}
 use borrow.Author.Needs.{needs}
 use Rattle.layout.proofs.links.lay_states.Statement.{statement}
 use Rattle.layout.proofs.links.lay_states.Tie as tie
@@ -38,7 +38,7 @@ loop-less c = search needs
 loop-again : tie.Need-loop-again Inv-loop μ-loop
 loop-again c =
     let long : length (c .before .before .args .t1) ≡ 64 = search needs in
-    (omega arith, column-next false (c .before .loop .inv .1) (omega arith) (omega arith) (state-byte (getD (c .before .before .args .t1) (c .before .loop .i) false)) (omega arith))
+    (omega arith, column-next false (c .before .loop .inv .1) (omega arith) (omega arith) (flag-bit (getD (c .before .before .args .t1) (c .before .loop .i) false)) (omega arith))
 
 same-length : tie.Need-same-length Inv-loop μ-loop
 same-length c = search needs

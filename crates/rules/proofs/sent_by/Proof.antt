@@ -1,8 +1,8 @@
 -- What is sent by what a verdict sends.
 use mathlib.Core.Path.{sym, _∙_}
 use borrow.Author.Needs.{needs}
-use Rattle.engine.proofs.numbers.sent_by.Statement.{statement}
-use Rattle.engine.proofs.numbers.sent_by.Tie as tie
+use Rattle.rules.proofs.sent_by.Statement.{statement}
+use Rattle.rules.proofs.sent_by.Tie as tie
 
 sending-of-requires : tie.Need-sending-of-requires
 sending-of-requires c κs = search needs
