@@ -9,8 +9,7 @@ use lib.ListN.{getD, set}
 use Rattle.network.specs.declared.Network.{Network}
 use Rattle.network.specs.Checks.{networkFault}
 use Rattle.cabling.specs.Cabling.{firstOf, plugsOf, portOf, secondOf, setupOf}
-use Rattle.seat.specs.declared.Seated.{Seated}
-use Rattle.seat.specs.Seat.{stepOf, withSetup}
+use Rattle.seat.specs.Seat.{Seated, stepOf, withSetup}
 use Rattle.seat.specs.Frames.{IsTheStep, hostFrame, linkFrame}
 use Rattle.table.specs.Table as table
 use Rattle.event.specs.declared.Event.{Event}

@@ -7,9 +7,11 @@
 ghost use mathlib.Core.Bool.{true};
 ghost use mathlib.Core.Path.{_≡_};
 ghost use Prim.Native.Nat.{_<_, _≤_};
-ghost use lib.ListN.{getD};
-ghost use Rattle.network.specs.Network.{mostSwitches, padded};
+ghost use lib.ListN.{getD, length, take};
+ghost use Rattle.network.specs.Network.{mostLinks, mostSwitches, padded};
 ghost use Rattle.cabling.specs.Cabling.{plugsOf};
+ghost use Rattle.flight.specs.Flight.{copiesIn};
+ghost use Rattle.turn.specs.Turn.{CanTurn, Kept, Turns, turnOf};
 ghost use Rattle.bench.specs.Bench.{Freshens, freshBench, freshHeads, noSeat};
 ghost use Rattle.bench.specs.Events as spec;
 ghost use Rattle.bench.specs.Events.{eventOf};
@@ -23,9 +25,11 @@ use event::Event;
 use flight::Copy;
 use flight::copies_of;
 use flight::words_of;
+use head::Switch;
 use network::Network;
 use rules::Setup;
 use seat::Seat;
+use table::Table;
 use turn::Answer;
 use turn::head_of;
 use turn::turn;
@@ -87,6 +91,66 @@ fn head_at(seats: [Seat; Network::SWITCHES], k: usize) -> Seat
     ensures { λ r. ⌜ r ≡ getD seats k noSeat ⌝ }
 {
     seats[k]
+}
+
+// A head behind its turn, the answer, and how many copies are then in flight.
+struct Taken {
+    seat: Seat,
+    answer: Answer,
+    flying: usize,
+}
+
+// A head by value takes its turn: its arrays are lent to it.
+fn take_turn(
+    network: Network,
+    plugs: &[u8],
+    up: &mut [bool],
+    seat: Seat,
+    words: &mut [[u64; 3]],
+    flying: usize,
+    e: Event,
+) -> Taken
+    requires { ⌜ Kept (now words) flying × (length (now up) ≡ mostLinks) × (now plugs ≡ plugsOf network) × CanTurn network (copiesIn flying (now words)) e ⌝ }
+    ensures { λ r. ⌜ Turns (turnOf network (now (up .entry)) seat (copiesIn flying (now (words .entry))) e) (now (up .exit)) (r .seat) (now (words .exit)) (r .flying) (r .answer) ⌝ }
+{
+    let switch = seat.switch;
+    let setup = switch.setup;
+    let table = switch.table;
+    let mut addresses = table.addresses;
+    let mut ports = table.ports;
+    let mut hops = table.hops;
+    let mut cells = seat.cells;
+    let t = turn(
+        network,
+        plugs,
+        up,
+        setup,
+        switch.nonce,
+        &mut addresses,
+        &mut ports,
+        &mut hops,
+        &mut cells,
+        words,
+        flying,
+        e,
+    );
+    let answer = t.answer;
+    Taken {
+        seat: Seat {
+            switch: Switch {
+                setup,
+                nonce: t.nonce,
+                table: Table {
+                    addresses,
+                    ports,
+                    hops,
+                },
+            },
+            cells,
+        },
+        answer,
+        flying: t.flying,
+    }
 }
 
 // All heads' ports, limits, salts and masks follow from description and link states.
@@ -171,7 +235,7 @@ impl Bench {
         let mut seats = self.seats;
         let k = head_of(network, &words, e) as usize;
         let seat = head_at(seats, k);
-        let t = turn(network, &plugs, &mut up, seat, &mut words, self.flying, e);
+        let t = take_turn(network, &plugs, &mut up, seat, &mut words, self.flying, e);
         let after = t.seat;
         seats[k] = after;
         let answer = t.answer;

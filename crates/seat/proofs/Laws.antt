@@ -93,7 +93,7 @@ with-setup-formed s formed lawful same = of-parts lawful (formed .nonce) (rw sam
 
 module _ (s : Seat) (port source destination : ℕ) where
   -- a host's frame: its addresses, and the header that rule 1 gives it
-  pub host-arrival : fromHost s port source destination ≡ arrivalOf port source destination (hostHeader (s .switch) source)
+  pub host-arrival : fromHost s port source destination ≡ arrivalOf port source destination (hostHeader (s .switch .nonce) (s .switch .table) source)
   unfolding fromHost
   host-arrival = refl
 

@@ -15,10 +15,9 @@ use Rattle.rules.specs.Rules.{onHostPort}
 use Rattle.rules.specs.Verdict.{sendingOf}
 use Rattle.head.specs.Step.{Steps, outgoing, refusal, written}
 use Rattle.head.specs.declared.Answer.the-variants.{Done}
-use Rattle.seat.specs.Seat.{fromHost, fromLink, stepOf}
+use Rattle.seat.specs.Seat.{Seated, fromHost, fromLink, stepOf}
 use Rattle.seat.specs.Words.{Formed}
 use Rattle.seat.specs.declared.Seat.{Seat}
-use Rattle.seat.specs.declared.Seated.{Seated}
 
 -- ---- The frames
 

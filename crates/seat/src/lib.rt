@@ -1,13 +1,13 @@
 // A head on the bench: its switch, and a filter of 64 cells, by value. A frame has no payload here,
-// so rule 1 is said of addresses and a header, and one function steps the seat on what arrives. The
-// table's arrays and the cells are lent to the rules, which are those of a head that has frames.
+// so rule 1 is said of addresses and a header. Rule 1 and the step take the table's arrays and the
+// cells lent, so that a run, which keeps those of all heads side by side, copies none.
 ghost use mathlib.Core.Path.{_≡_};
 ghost use Prim.Native.Nat.{_<_};
 ghost use Rattle.refusal.specs.Refusal.{first};
-ghost use Rattle.table.specs.Table.{lookupOf};
+ghost use Rattle.table.specs.Table.{Sized, lookupOf, tableOf};
 ghost use Rattle.rules.specs.Rules.{isAbsent};
 ghost use Rattle.head.specs.Switch.{switchCauses};
-ghost use Rattle.seat.specs.Seat.{freshSeat, fromHost, fromLink, stepOf, withSetup};
+ghost use Rattle.seat.specs.Seat.{arrivalOf, freshSeat, fromLink, hostHeader, seatIn, seatedAs, stepOf, withSetup};
 use frame::Header;
 use head::Switch;
 use head::causes::switch_refusal;
@@ -25,10 +25,10 @@ pub struct Seat {
     pub cells: [u8; Seat::CELLS],
 }
 
-// A seat behind a step, and what the step reports.
-pub struct Seated {
-    pub seat: Seat,
+// What a step reports, and the next nonce.
+pub struct Stepped {
     pub report: Report,
+    pub nonce: u32,
 }
 
 impl Seat {
@@ -63,56 +63,6 @@ impl Seat {
         switch_refusal(setup, switch.nonce, &addresses, &ports, &hops, &cells)
     }
 
-    // Rule 1 on a host port.
-    pub fn from_host(self, port: u8, source: u64, destination: u64) -> Arrival
-        ensures { λ r. ⌜ r ≡ fromHost self port source destination ⌝ }
-    {
-        let switch = self.switch;
-        let header = Header {
-            l: true,
-            f: is_unknown(switch.table, source),
-            hc: 1,
-            nonce: switch.nonce,
-        };
-        Arrival {
-            port,
-            source,
-            destination,
-            header,
-        }
-    }
-
-    // The rules on what arrives; the nonce advances if that is on a host port.
-    pub fn step(self, a: Arrival) -> Seated
-        requires { ⌜ a .port < 16 ⌝ }
-        ensures { λ r. ⌜ r ≡ stepOf self a ⌝ }
-    {
-        let switch = self.switch;
-        let setup = switch.setup;
-        let table = switch.table;
-        let mut addresses = table.addresses;
-        let mut ports = table.ports;
-        let mut hops = table.hops;
-        let mut cells = self.cells;
-        let report = rules(setup, &mut addresses, &mut ports, &mut hops, &mut cells, a);
-        let nonce = nonce_after(setup, switch.nonce, a.port);
-        Seated {
-            seat: Seat {
-                switch: Switch {
-                    setup,
-                    nonce,
-                    table: Table {
-                        addresses,
-                        ports,
-                        hops,
-                    },
-                },
-                cells,
-            },
-            report,
-        }
-    }
-
     // The same nonce, table and filter under another setup: links change which ports are live.
     pub fn with_setup(self, setup: Setup) -> Self
         ensures { λ r. ⌜ r ≡ withSetup setup self ⌝ }
@@ -132,16 +82,41 @@ impl Seat {
 }
 
 // Whether a source has no entry.
-fn is_unknown(table: Table, source: u64) -> bool
-    ensures { λ r. ⌜ r ≡ isAbsent (lookupOf table source) ⌝ }
+fn is_unknown(addresses: &[u64], ports: &[u8], hops: &[u8], source: u64) -> bool
+    requires { ⌜ Sized (tableOf (now addresses) (now ports) (now hops)) ⌝ }
+    ensures { λ r. ⌜ r ≡ isAbsent (lookupOf (tableOf (now (addresses .entry)) (now (ports .entry)) (now (hops .entry))) source) ⌝ }
 {
-    let addresses = table.addresses;
-    let ports = table.ports;
-    let hops = table.hops;
-    let found = lookup_in(&addresses, &ports, &hops, source);
+    let found = lookup_in(addresses, ports, hops, source);
     match found {
         Found::Entry(_) => false,
         Found::Absent => true,
+    }
+}
+
+// Rule 1 on a host port.
+pub fn from_host(
+    nonce: u32,
+    addresses: &[u64],
+    ports: &[u8],
+    hops: &[u8],
+    port: u8,
+    source: u64,
+    destination: u64,
+) -> Arrival
+    requires { ⌜ Sized (tableOf (now addresses) (now ports) (now hops)) ⌝ }
+    ensures { λ r. ⌜ r ≡ arrivalOf port source destination (hostHeader nonce (tableOf (now (addresses .entry)) (now (ports .entry)) (now (hops .entry))) source) ⌝ }
+{
+    let header = Header {
+        l: true,
+        f: is_unknown(addresses, ports, hops, source),
+        hc: 1,
+        nonce,
+    };
+    Arrival {
+        port,
+        source,
+        destination,
+        header,
     }
 }
 
@@ -161,5 +136,26 @@ pub fn from_link(port: u8, source: u64, destination: u64, h: Header) -> Arrival
         source,
         destination,
         header,
+    }
+}
+
+// The rules on what arrives; the nonce advances if that is on a host port.
+pub fn step(
+    setup: Setup,
+    nonce: u32,
+    addresses: &mut [u64],
+    ports: &mut [u8],
+    hops: &mut [u8],
+    cells: &mut [u8],
+    a: Arrival,
+) -> Stepped
+    requires { ⌜ Sized (tableOf (now addresses) (now ports) (now hops)) × (a .port < 16) ⌝ }
+    ensures steps { λ r. ⌜ seatedAs (seatIn setup (r .nonce) (now (addresses .exit)) (now (ports .exit)) (now (hops .exit)) (now (cells .exit))) (r .report) ≡ stepOf (seatIn setup nonce (now (addresses .entry)) (now (ports .entry)) (now (hops .entry)) (now (cells .entry))) a ⌝ }
+    ensures sized { λ _. ⌜ Sized (tableOf (now (addresses .exit)) (now (ports .exit)) (now (hops .exit))) ⌝ }
+{
+    let report = rules(setup, addresses, ports, hops, cells, a);
+    Stepped {
+        report,
+        nonce: nonce_after(setup, nonce, a.port),
     }
 }

@@ -1,6 +1,6 @@
 -- An event on the parts of a bench: refused for its own causes, or the turn of the head that it concerns.
 use Prim.Native.Nat.{ℕ}
-use mathlib.Core.Path.{_≡_, refl, ap, subst, _∙_}
+use mathlib.Core.Path.{_≡_, refl, sym, ap, subst, _∙_}
 use mathlib.Core.Bool.{Bool}
 use mathlib.Core.List.{List}
 use Rattle.refusal.proofs.Laws.{refused-leaves, accepted-leaves}
@@ -29,6 +29,11 @@ module _ (n : Network) (up : List Bool) (words : List (List ℕ)) (flying : ℕ)
   pub head-concerned : {k : ℕ} → r ≡ 0 → k ≡ headOf n (copiesIn flying words) e → k ≡ concerned n flying (copiesIn flying words) e
   unfolding concerned
   head-concerned none is = is ∙ accepted-leaves found none 0 (headOf n (copiesIn flying words) e)
+
+  -- any other the head whose turn it is
+  pub concerned-head : {k : ℕ} → r ≡ 0 → k ≡ concerned n flying (copiesIn flying words) e → k ≡ headOf n (copiesIn flying words) e
+  unfolding concerned
+  concerned-head none is = is ∙ sym (accepted-leaves found none 0 (headOf n (copiesIn flying words) e))
 
   -- and leaves everything as it was
   pub refused-acts : (s : Seat) → (r ≡ 0 → ⊥) → Kept words flying → Turns (actOf n up s flying (copiesIn flying words) e) up s words flying (Refused r)

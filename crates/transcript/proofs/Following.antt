@@ -26,17 +26,11 @@ pub fresh-with : (setup s : Setup) → withSetup setup (freshSeat s) ≡ freshSe
 unfolding freshSeat
 fresh-with setup s = refl
 
--- what stands at a place that there is doesn't hang on what stands for the others
-same-there : {A : Type 0} (xs : List A) (k : ℕ) (d e : A) → k < length xs → getD xs k d ≡ getD xs k e
-same-there [] k d e h = absurd (omega arith)
-same-there (x ∷ xs) zero d e h = refl
-same-there (x ∷ xs) (suc k) d e h = same-there xs k d e (omega arith)
-
 module _ (n : Network) where
   -- a head of the stand has the setup that is worked out for it
-  pub head-follows : (up : List Bool) (k : ℕ) (ss : List Seat) (d : Seat) → k < n .nswitches → k < length ss → getD (follow n up 0 ss) k noSeat ≡ seatedAt n up k (getD ss k d)
+  pub head-follows : (up : List Bool) (k : ℕ) (ss : List Seat) → k < n .nswitches → k < length ss → getD (follow n up 0 ss) k noSeat ≡ seatedAt n up k (getD ss k noSeat)
   unfolding seatedAt
-  head-follows up k ss d h l = follow-at n up ss k l h ∙ ap (λ s. withSetup (setupOf n (plugsOf n) up k) s) (same-there ss k noSeat d l)
+  head-follows up k ss h l = follow-at n up ss k l h
 
   -- ---- Fresh heads
 

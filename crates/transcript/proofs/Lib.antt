@@ -1,4 +1,5 @@
 pub mod Laws
+mod Parts
 mod Acting
 mod Following
 mod Standing

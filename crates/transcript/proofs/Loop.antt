@@ -14,6 +14,7 @@ use Rattle.network.specs.Network.{mostLinks, mostSwitches}
 use Rattle.network.specs.Checks.{networkFault}
 use Rattle.network.proofs.Laws.{accepted-is-sound, switches-long}
 use Rattle.cabling.specs.Cabling.{plugsOf}
+use Rattle.filter.specs.Filter.{zeros}
 use Rattle.seat.specs.declared.Seat.{Seat}
 use Rattle.flight.specs.Flight.{All, copiesIn, most, noWords}
 use Rattle.flight.proofs.Laws.{copies-length}
@@ -35,17 +36,10 @@ use Rattle.counters.specs.Counters.{noCounts}
 use Rattle.counters.specs.History.{InRun, State, after, freshState, happensAt, runOf}
 use Rattle.counters.proofs.Laws.{event-accepted-in-run, event-in-run, fresh-in-run, run-accepts}
 use Rattle.transcript.specs.Transcript.{lineAt, lineFor, linesFrom, linesIn}
-use Rattle.transcript.specs.Running.{CanAct, CanRun, Ran, actOf, concerned}
+use Rattle.transcript.specs.Running.{Arrays, CanAct, CanRun, Ran, actOf, concerned}
+use Rattle.transcript.proofs.Parts.{Held, held-fresh, zeroArrays}
 use Rattle.transcript.proofs.Printing.{line-short, lines-bad, lines-got, no-lines}
 use Rattle.transcript.proofs.Standing.{benchOn, event-on, flying-on, fresh-stands, happenedOn}
-
--- what stands behind the end of the heads' array, as the code sees it
-abbrev pub blank : Seat
-blank =
-    record {
-      switch = record { setup = record { ports = 0; live = 0; host = 0; limit = 0; salt = 0 }; nonce = 0; table = record { addresses = []; ports = []; hops = [] } };
-      cells = [];
-    }
 
 -- the state that a run stands for
 abbrev pub stateOn : Network → List Bool → List Seat → List (List ℕ) → ℕ → Counters → State
@@ -75,6 +69,12 @@ pub record Going (n : Network) (input : List ℕ) (start : ℕ) (out₀ out : Li
   pub few : many ≤ 12_000
   pub short : wrote ≤ 26 * many
 
+-- with the heads where the run keeps them
+pub record Runs (n : Network) (input : List ℕ) (start : ℕ) (out₀ out : List ℕ) (up : List Bool) (nonces : List ℕ) (x : Arrays) (words : List (List ℕ)) (flying number at wrote : ℕ) : Type 0 where
+  pub seats : List Seat
+  pub held : Held seats nonces x
+  pub going : Going n input start out₀ out up seats words flying number at wrote
+
 -- an event is accepted or not
 accepts-one : (s : State) (e : Event) → happensAt s e .counters .accepted ≤ s .counters .accepted + 1
 unfolding runOf after
@@ -97,10 +97,6 @@ module _ {n : Network} {up : List Bool} {seats : List Seat} {words : List (List 
   as-many : ownRefusal n flying e ≡ 0 → ownRefusal n (length (copiesIn flying words)) e ≡ 0
   as-many free = ap (λ m. ownRefusal n m e) (copies-length flying words (omega (arith, v .kept .whole, v .kept .few))) ∙ free
 
-  -- what an event asks
-  pub stands-can : {plugs : List ℕ} → plugs ≡ plugsOf n → CanAct n plugs up words flying e
-  stands-can plugged = record { kept = v .kept; links = v .links; plugged = plugged; can = λ free. can-turn n described up (copiesIn flying words) copies-fit e (as-many free) }
-
   there : ownRefusal n flying e ≡ 0 → headOf n (copiesIn flying words) e < n .nswitches
   there free = head-there n described up (copiesIn flying words) copies-fit e (as-many free)
 
@@ -113,15 +109,27 @@ module _ {n : Network} {up : List Bool} {seats : List Seat} {words : List (List 
       by-number zero h = h refl
       by-number (suc r) h = omega arith
 
+  -- what an event asks
+  pub stands-can : {plugs : List ℕ} {k : ℕ} → plugs ≡ plugsOf n → k ≡ concerned n flying (copiesIn flying words) e → CanAct n plugs up words flying e k
+  stands-can plugged is-k =
+      record {
+        kept = v .kept;
+        links = v .links;
+        plugged = plugged;
+        can = λ free. can-turn n described up (copiesIn flying words) copies-fit e (as-many free);
+        head = is-k;
+        few = omega (arith, concerns-one);
+      }
+
   -- ---- An event is what happens on the bench
 
-  module _ (early : many < 1_000_000) (d : Seat) {k : ℕ} {s : Seat} {up′ : List Bool} {s′ : Seat} {words′ : List (List ℕ)} {m : ℕ} {a : Answer}
-      (is-k : k ≡ concerned n flying (copiesIn flying words) e) (is-s : s ≡ getD seats k d) (t : Turns (actOf n up s flying (copiesIn flying words) e) up′ s′ words′ m a) where
+  module _ (early : many < 1_000_000) {k : ℕ} {up′ : List Bool} {s′ : Seat} {words′ : List (List ℕ)} {m : ℕ} {a : Answer}
+      (is-k : k ≡ concerned n flying (copiesIn flying words) e) (t : Turns (actOf n up (getD seats k noSeat) flying (copiesIn flying words) e) up′ s′ words′ m a) where
     happens-on : happensAt (stateOn n up seats words flying c) e .happened ≡ happenedOn n up′ (set seats k s′) words′ m a
     unfolding benchOn
     happens-on =
-        event-on n up seats words flying (v .kept) e d c (event-accepted-in-run (v .sound) (omega (arith, v .accepted)) e) there (omega (arith, few-switches n described, v .heads))
-        (is-s ∙ ap (λ j. getD seats j d) is-k) t
+        event-on n up seats words flying (v .kept) e c (event-accepted-in-run (v .sound) (omega (arith, v .accepted)) e) there (omega (arith, few-switches n described, v .heads))
+        (ap (λ j. getD seats j noSeat) is-k) t
         ∙ ap (λ j. happenedOn n up′ (set seats j s′) words′ m a) (sym is-k)
 
     pub after-on : after (stateOn n up seats words flying c) e ≡ stateOn n up′ (set seats k s′) words′ m (happensAt (stateOn n up seats words flying c) e .counters)
@@ -147,13 +155,11 @@ put-long : (l bs : List ℕ) → length bs ≤ length l → length (put l 0 bs) 
 put-long l bs h = simp (length-append, length-drop) (omega arith)
 
 -- at first nothing is written
-pub going-starts : {n : Network} {input out : List ℕ} (start : ℕ) {s : Seat} → CanRun n input out → s ≡ noSeat
-    → Going n input start out out allUp (replicate mostSwitches s) (replicate most noWords) 0 1 start 0
+going-starts : {n : Network} {input out : List ℕ} (start : ℕ) → CanRun n input out → Going n input start out out allUp (replicate mostSwitches noSeat) (replicate most noWords) 0 1 start 0
 unfolding linesFrom
-going-starts {n} {input} {out} start {s} can none =
-    let fresh : stateOn n allUp (replicate mostSwitches s) (replicate most noWords) 0 noCounts ≡ freshState n
-    = ap (λ b. record { bench = b; counters = noCounts })
-    (ap (λ w. benchOn n allUp (replicate mostSwitches w) (replicate most noWords) 0) none ∙ fresh-stands n (few-switches n (can .accepted))) in
+going-starts {n} {input} {out} start can =
+    let fresh : stateOn n allUp (replicate mostSwitches noSeat) (replicate most noWords) 0 noCounts ≡ freshState n
+    = ap (λ b. record { bench = b; counters = noCounts }) (fresh-stands n (few-switches n (can .accepted))) in
     record {
       counters = noCounts;
       many = 0;
@@ -175,6 +181,9 @@ going-starts {n} {input} {out} start {s} can none =
       few = omega arith;
       short = omega arith;
     }
+
+pub runs-start : {n : Network} {input out : List ℕ} (start : ℕ) → CanRun n input out → Runs n input start out out allUp (zeros mostSwitches) zeroArrays (replicate most noWords) 0 1 start 0
+runs-start start can = record { seats = replicate mostSwitches noSeat; held = held-fresh; going = going-starts start can }
 
 module _ {n : Network} {input : List ℕ} {start : ℕ} {out₀ out : List ℕ} {up : List Bool} {seats : List Seat} {words : List (List ℕ)} {flying number at wrote : ℕ}
     (can : CanRun n input out₀) (v : Going n input start out₀ out up seats words flying number at wrote) where
@@ -224,11 +233,11 @@ module _ {n : Network} {input : List ℕ} {start : ℕ} {out₀ out : List ℕ} 
         }
 
     -- an event is read, its line is put, and the run goes on behind its record
-    module _ (e : Event) (got : readEvent (drop at input) ≡ Got e) (d : Seat) {k : ℕ} {s : Seat} {up′ : List Bool} {s′ : Seat} {words′ : List (List ℕ)} {m : ℕ} {a : Answer}
-        (is-k : k ≡ concerned n flying (copiesIn flying words) e) (is-s : s ≡ getD seats k d) (t : Turns (actOf n up s flying (copiesIn flying words) e) up′ s′ words′ m a)
+    module _ (e : Event) (got : readEvent (drop at input) ≡ Got e) {k : ℕ} {up′ : List Bool} {s′ : Seat} {words′ : List (List ℕ)} {m : ℕ} {a : Answer}
+        (is-k : k ≡ concerned n flying (copiesIn flying words) e) (t : Turns (actOf n up (getD seats k noSeat) flying (copiesIn flying words) e) up′ s′ words′ m a)
         {l : Line} (is-l : l ≡ lineFor number e a m) where
       line-here : lineOf l ≡ lineAt number (stateOn n up seats words flying (v .counters)) e
-      line-here = line-on (v .stands) e (omega (arith, v .few)) d is-k is-s t number is-l
+      line-here = line-on (v .stands) e (omega (arith, v .few)) is-k t number is-l
 
       pub line-fits : length (lineOf l) ≤ 26
       unfolding benchOn
@@ -245,13 +254,13 @@ module _ {n : Network} {input : List ℕ} {start : ℕ} {out₀ out : List ℕ} 
           let behind : drop (sizeOf e) (drop at input) ≡ drop at′ input = drop-drop (sizeOf e) at input ∙ ap (λ i. drop i input) is-at in
           let one : linesIn (v .turns) number now (drop at input) ≡ lineOf l ++ linesIn on number′ then (drop at′ input)
           = more ∙ lines-got on number now (drop at input) some got
-          ∙ (λ i. sym line-here i ++ linesIn on (sym next i) (after-on (v .stands) e (omega (arith, v .few)) d is-k is-s t i) (behind i)) in
+          ∙ (λ i. sym line-here i ++ linesIn on (sym next i) (after-on (v .stands) e (omega (arith, v .few)) is-k t i) (behind i)) in
           record {
             counters = happensAt now e .counters;
             many = v .many + 1;
             turns = on;
             written = v .written ++ lineOf l;
-            stands = stands-next (v .stands) e (omega (arith, v .few)) d is-k is-s t long;
+            stands = stands-next (v .stands) e (omega (arith, v .few)) is-k t long;
             numbered = omega (arith, v .numbered);
             enough = omega (arith, v .enough, on-is, size-range e .0);
             lines = append-assoc (v .written) (lineOf l) (linesIn on number′ then (drop at′ input)) ∙ ap (λ b. v .written ++ b) (sym one) ∙ v .lines;

@@ -61,7 +61,7 @@ module _ (n : Network) (up : List Bool) (seats : List Seat) (words : List (List 
   unfolding inFlight benchOn
   flying-on = take-at copies (replicate (most - length copies) noCopy) flying (copies-length flying words (omega (arith, kept .whole, kept .few)))
 
-  module _ (e : Event) (d : Seat) where
+  module _ (e : Event) where
     abbrev head : ℕ
     head = headOf n copies e
 
@@ -69,11 +69,11 @@ module _ (n : Network) (up : List Bool) (seats : List Seat) (words : List (List 
     turnFor s = turnOf n up (seatedAt n up head s) copies e
 
     -- the turn that the bench's head takes
-    turn-on : head < n .nswitches → n .nswitches ≤ length seats → turnIn bench e ≡ turnFor (getD seats head d)
+    turn-on : head < n .nswitches → n .nswitches ≤ length seats → turnIn bench e ≡ turnFor (getD seats head noSeat)
     unfolding turnIn seatAt benchOn
     turn-on there few =
         ap (λ cs. turnOf n up (getD (follow n up 0 seats) (headOf n cs e) noSeat) cs e) flying-on
-        ∙ ap (λ s. turnOf n up s copies e) (head-follows n up head seats d there (omega arith))
+        ∙ ap (λ s. turnOf n up s copies e) (head-follows n up head seats there (omega arith))
 
     module _ {up′ : List Bool} {s′ : Seat} {words′ : List (List ℕ)} {m : ℕ} {a : Answer} where
       -- the bench behind a turn
@@ -86,14 +86,14 @@ module _ (n : Network) (up : List Bool) (seats : List Seat) (words : List (List 
           λ i. record { bench = benchOf n (sym (v .up) i) (heads i) (padded noCopy most (sym (v .copies) i)) (many i); answer = sym (v .answer) i }
 
       -- the bench behind a refused event, the same by the names that it then has
-      unturned-on : (s : Seat) (r : ℕ) → s ≡ getD seats 0 d → Turns (unturned up s copies r) up′ s′ words′ m a → record { bench = bench; answer = Refused r } ≡ happenedOn n up′ (set seats 0 s′) words′ m a
+      unturned-on : (s : Seat) (r : ℕ) → s ≡ getD seats 0 noSeat → Turns (unturned up s copies r) up′ s′ words′ m a → record { bench = bench; answer = Refused r } ≡ happenedOn n up′ (set seats 0 s′) words′ m a
       unfolding benchOn
       unturned-on s r is v =
           let many : flying ≡ m = sym (same-many (record { whole = v .whole; few = v .few }) kept (v .copies)) in
-          let heads : seats ≡ set seats 0 s′ = sym (set-getD seats 0 d) ∙ ap (λ w. set seats 0 w) (sym is ∙ sym (v .seat)) in
+          let heads : seats ≡ set seats 0 s′ = sym (set-getD seats 0 noSeat) ∙ ap (λ w. set seats 0 w) (sym is ∙ sym (v .seat)) in
           λ i. record { bench = benchOf n (sym (v .up) i) (follow n (sym (v .up) i) 0 (heads i)) (padded noCopy most (sym (v .copies) i)) (many i); answer = sym (v .answer) i }
 
-      by-number : (c : Counters) (s : Seat) (r : ℕ) → eventRefusal bench c e ≡ r → (r ≡ 0 → head < n .nswitches) → n .nswitches ≤ length seats → s ≡ getD seats (leaves r 0 head) d
+      by-number : (c : Counters) (s : Seat) (r : ℕ) → eventRefusal bench c e ≡ r → (r ≡ 0 → head < n .nswitches) → n .nswitches ≤ length seats → s ≡ getD seats (leaves r 0 head) noSeat
           → Turns (leaves r (unturned up s copies r) (turnFor s)) up′ s′ words′ m a → happensOf bench e c .happened ≡ happenedOn n up′ (set seats (leaves r 0 head) s′) words′ m a
       unfolding happensOf eventOf benchOn
       by-number c s zero q there few is v =
@@ -103,7 +103,7 @@ module _ (n : Network) (up : List Bool) (seats : List Seat) (words : List (List 
 
       -- what happens on the bench, refused for its own causes alone, is what the run does
       pub event-on : (c : Counters) {s : Seat} → eventRefusal bench c e ≡ ownRefusal n flying e → (ownRefusal n flying e ≡ 0 → head < n .nswitches) → n .nswitches ≤ length seats
-          → s ≡ getD seats (concerned n flying copies e) d → Turns (actOf n up s flying copies e) up′ s′ words′ m a → happensOf bench e c .happened
+          → s ≡ getD seats (concerned n flying copies e) noSeat → Turns (actOf n up s flying copies e) up′ s′ words′ m a → happensOf bench e c .happened
           ≡ happenedOn n up′ (set seats (concerned n flying copies e) s′) words′ m a
       unfolding concerned actOf
       event-on c {s} q there few is v = by-number c s (ownRefusal n flying e) q there few is v

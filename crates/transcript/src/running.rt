@@ -2,10 +2,10 @@
 ghost use mathlib.Core.Path.{_≡_};
 ghost use Prim.Native.Nat.{_≤_};
 ghost use Rattle.flight.specs.Flight.{copiesIn, most};
-ghost use Rattle.turn.specs.Turn.{Kept, Turns};
-ghost use Rattle.bench.specs.Bench.{noSeat};
+ghost use Rattle.seat.specs.declared.Seat.{Seat};
+ghost use Rattle.turn.specs.Turn.{Kept};
 ghost use Rattle.transcript.specs.Transcript.{lineFor};
-ghost use Rattle.transcript.specs.Running.{CanAct, CanRun, Ran, actOf, concerned};
+ghost use Rattle.transcript.specs.Running.{Acts, CanAct, CanRun, HeadIn, OnlyHead, Ran, Whole, actOf, arraysOf, concerned};
 use cabling::plugs_of;
 use cabling::setup_of;
 use event::Event;
@@ -17,8 +17,8 @@ use lines::Line;
 use lines::put_line;
 use lines::put_stop;
 use network::Network;
-use rules::Setup;
 use seat::Seat;
+use table::Table;
 use turn::Answer;
 use turn::Turned;
 use turn::head_of;
@@ -43,19 +43,6 @@ fn line_for(number: u32, e: Event, a: Answer, flying: usize) -> Line
     }
 }
 
-// Nothing learned and nothing recorded; its setup comes with its turn.
-fn unset() -> Seat
-    ensures { λ r. ⌜ r ≡ noSeat ⌝ }
-{
-    Seat::fresh(Setup {
-        ports: 0,
-        live: 0,
-        host: 0,
-        limit: 0,
-        salt: 0,
-    })
-}
-
 // The number of the head that an event concerns; the first where the event is refused, which then
 // stays as it is.
 fn seat_for(network: Network, words: &[[u64; 3]], flying: usize, e: Event) -> usize
@@ -68,30 +55,58 @@ fn seat_for(network: Network, words: &[[u64; 3]], flying: usize, e: Event) -> us
     head_of(network, words, e) as usize
 }
 
-// An event on a bench in shape: its own causes, then the turn, under the masks that the links give.
+// The slots of all heads' tables, and the bytes of all their cells.
+const SLOTS: usize = 1024;
+
+const CELLS: usize = 10_240;
+
+// An event on a bench in shape: its own causes, then the turn of head k, under the masks that the
+// links give. Of all heads' tables and cells the head is lent its own.
 fn act(
     network: Network,
     plugs: &[u8],
     up: &mut [bool],
-    seat: Seat,
+    k: usize,
+    nonce: u32,
+    addresses: &mut [u64],
+    ports: &mut [u8],
+    hops: &mut [u8],
+    cells: &mut [u8],
     words: &mut [[u64; 3]],
     flying: usize,
     e: Event,
 ) -> Turned
-    requires { ⌜ CanAct network (now plugs) (now up) (now words) flying e ⌝ }
-    ensures { λ r. ⌜ Turns (actOf network (now (up .entry)) seat flying (copiesIn flying (now (words .entry))) e) (now (up .exit)) (r .seat) (now (words .exit)) (r .flying) (r .answer) ⌝ }
+    requires { ⌜ CanAct network (now plugs) (now up) (now words) flying e k × Whole (arraysOf (now addresses) (now ports) (now hops) (now cells)) ⌝ }
+    ensures acts { λ r. ⌜ ((s : Seat) → HeadIn s nonce k (arraysOf (now (addresses .entry)) (now (ports .entry)) (now (hops .entry)) (now (cells .entry))) → Acts (actOf network (now (up .entry)) s flying (copiesIn flying (now (words .entry))) e) (now (up .exit)) k (r .nonce) (arraysOf (now (addresses .exit)) (now (ports .exit)) (now (hops .exit)) (now (cells .exit))) (now (words .exit)) (r .flying) (r .answer)) ⌝ }
+    ensures others { λ _. ⌜ OnlyHead k (arraysOf (now (addresses .entry)) (now (ports .entry)) (now (hops .entry)) (now (cells .entry))) (arraysOf (now (addresses .exit)) (now (ports .exit)) (now (hops .exit)) (now (cells .exit))) ⌝ }
 {
     let n = own_refusal(network, flying, e);
     if n != 0 {
         return Turned {
-            seat,
             answer: Answer::Refused(n),
+            nonce,
             flying,
         };
     }
-    let k = head_of(network, words, e);
-    let setup = setup_of(network, plugs, up, k);
-    turn(network, plugs, up, seat.with_setup(setup), words, flying, e)
+    let setup = setup_of(network, plugs, up, k as u8);
+    let slot = k * Table::SLOTS;
+    let next_slot = slot + Table::SLOTS;
+    let cell = k * Seat::CELLS;
+    let next_cell = cell + Seat::CELLS;
+    turn(
+        network,
+        plugs,
+        up,
+        setup,
+        nonce,
+        &mut addresses[slot..next_slot],
+        &mut ports[slot..next_slot],
+        &mut hops[slot..next_slot],
+        &mut cells[cell..next_cell],
+        words,
+        flying,
+        e,
+    )
 }
 
 // The lines of the events from a place of the input on; where they end in the output.
@@ -101,8 +116,11 @@ pub fn run(network: Network, input: &[u8], start: usize, out: &mut [u8]) -> usiz
 {
     let plugs = plugs_of(network);
     let mut up = [true; Network::LINKS];
-    let none = unset();
-    let mut seats = [none; Network::SWITCHES];
+    let mut nonces = [0u32; Network::SWITCHES];
+    let mut addresses = [0u64; SLOTS];
+    let mut ports = [0u8; SLOTS];
+    let mut hops = [0u8; SLOTS];
+    let mut cells = [0u8; CELLS];
     let empty = [0u64; 3];
     let mut words = [empty; Copy::MOST];
     let mut flying: usize = 0;
@@ -114,10 +132,22 @@ pub fn run(network: Network, input: &[u8], start: usize, out: &mut [u8]) -> usiz
             return put_stop(out, wrote);
         };
         let k = seat_for(network, &words, flying, e);
-        let seat = seats[k];
-        let t = act(network, &plugs, &mut up, seat, &mut words, flying, e);
-        let after = t.seat;
-        seats[k] = after;
+        let nonce = nonces[k];
+        let t = act(
+            network,
+            &plugs,
+            &mut up,
+            k,
+            nonce,
+            &mut addresses,
+            &mut ports,
+            &mut hops,
+            &mut cells,
+            &mut words,
+            flying,
+            e,
+        );
+        nonces[k] = t.nonce;
         flying = t.flying;
         let answer = t.answer;
         wrote = put_line(out, wrote, line_for(number, e, answer, flying));

@@ -23,8 +23,7 @@ use Rattle.network.specs.Checks.{networkFault}
 use Rattle.cabling.specs.Cabling.{plugsOf, setupOf}
 use Rattle.cabling.proofs.Laws.{link-there, link-up}
 use Rattle.seat.specs.declared.Seat.{Seat}
-use Rattle.seat.specs.declared.Seated.{Seated}
-use Rattle.seat.specs.Seat.{stepOf}
+use Rattle.seat.specs.Seat.{Seated, stepOf}
 use Rattle.seat.specs.Words.{Formed}
 use Rattle.seat.proofs.Laws.{may-send, step-formed}
 use Rattle.flight.specs.declared.Copy.{Copy}

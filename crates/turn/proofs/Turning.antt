@@ -22,8 +22,7 @@ use Rattle.network.specs.declared.Port.{Port}
 use Rattle.network.specs.declared.Host.{Host}
 use Rattle.cabling.specs.Cabling.{plugAt, plugsOf}
 use Rattle.seat.specs.declared.Seat.{Seat}
-use Rattle.seat.specs.declared.Seated.{Seated}
-use Rattle.seat.specs.Seat.{fromHost, fromLink, stepOf}
+use Rattle.seat.specs.Seat.{Seated, arrivalOf, fromHost, fromLink, hostHeader, stepOf}
 use Rattle.flight.specs.declared.Copy.{Copy}
 use Rattle.flight.specs.Flight as flight
 use Rattle.flight.specs.Flight.{Cut, copiesIn, most, noCopy, spared, sparedWords, unpack, without}
@@ -71,15 +70,13 @@ head-steps n up k s a {w} {sent} {plugs} {after} flying stepped went room same =
 
 -- ---- A host presents
 
-module _ (s : Seat) (h : Host) (to : ℕ) {a : Arrival} where
-  pub presented-port : a ≡ fromHost s (h .port .number) (h .address) to → h .port .number < 16 → a .port < 16
-  unfolding fromHost
-  presented-port e less = omega (arith, ap (λ (b : Arrival). b .port) e)
+module _ (s : Seat) (h : Host) (to : ℕ) {a : Arrival} (arrives : a ≡ arrivalOf (h .port .number) (h .address) to (hostHeader (s .switch .nonce) (s .switch .table) (h .address))) where
+  pub presented-port : h .port .number < 16 → a .port < 16
+  presented-port less = omega (arith, ap (λ (b : Arrival). b .port) arrives)
 
-  pub presented-is : (n : Network) (up : List Bool) (flying : List Copy) → a ≡ fromHost s (h .port .number) (h .address) to
-      → steps n up (h .port .switch) s a flying ≡ presents n up s flying h to
-  unfolding presents hostArrival
-  presented-is n up flying e = ap (λ b. steps n up (h .port .switch) s b flying) e
+  pub presented-is : (n : Network) (up : List Bool) (flying : List Copy) → steps n up (h .port .switch) s a flying ≡ presents n up s flying h to
+  unfolding presents hostArrival fromHost
+  presented-is n up flying = ap (λ b. steps n up (h .port .switch) s b flying) arrives
 
 -- ---- A copy is taken
 

@@ -20,8 +20,7 @@ use Rattle.cabling.specs.declared.End.{End}
 use Rattle.cabling.specs.declared.Plug.{Plug}
 use Rattle.cabling.specs.Cabling.{firstOf, hostAt, mostPorts, plugAt, plugsOf, portOf}
 use Rattle.seat.specs.declared.Seat.{Seat}
-use Rattle.seat.specs.declared.Seated.{Seated}
-use Rattle.seat.specs.Seat.{fromHost, fromLink, stepOf}
+use Rattle.seat.specs.Seat.{Seated, fromHost, fromLink, stepOf}
 use Rattle.flight.specs.declared.Copy.{Copy}
 use Rattle.flight.specs.Flight.{copiesIn, laid, most, noCopy, spared, sparedWords, without}
 use Rattle.event.specs.declared.Event.{Event}

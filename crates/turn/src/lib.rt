@@ -1,6 +1,6 @@
-// A head's turn at an event, on the parts of a bench: one head by value, the links' states and the
-// packed copies lent, so that a run copies no more than the head whose turn it is. The plugs are those
-// of the network, worked out once for a whole run.
+// A head's turn at an event, on the parts of a bench, all lent: the head's table and cells, the links'
+// states and the packed copies, so that a run copies none of them. The plugs are those of the network,
+// worked out once for a whole run.
 pub mod sending;
 
 ghost use mathlib.Core.Bool.{Bool};
@@ -12,6 +12,9 @@ ghost use Rattle.network.specs.declared.Network.{Network};
 ghost use Rattle.network.specs.Network.{mostLinks};
 ghost use Rattle.cabling.specs.Cabling.{plugsOf};
 ghost use Rattle.flight.specs.Flight.{copiesIn, without};
+ghost use Rattle.table.specs.Table.{Sized, tableOf};
+ghost use Rattle.seat.specs.declared.Seat.{Seat};
+ghost use Rattle.seat.specs.Seat.{seatIn};
 ghost use Rattle.turn.specs.Send.{Written};
 ghost use Rattle.turn.specs.Turn as spec;
 ghost use Rattle.turn.specs.Turn.{CanTake, CanTurn, Kept, Laid, Spares, Turns, headOf, hostOf, portTo, presents, receivedBy, refusalOf, sets, staying, steps, takes, turnOf, verdictOf};
@@ -29,10 +32,12 @@ use network::Port;
 use network::places::nth_host;
 use refusal::or_when;
 use rules::Arrival;
+use rules::Setup;
 use rules::Verdict;
 use rules::letter_of;
-use seat::Seat;
+use seat::from_host;
 use seat::from_link;
+use seat::step;
 use sending::send_out;
 
 // What a step on the bench did: enough to count, to capture and to follow a frame by.
@@ -57,10 +62,10 @@ pub enum Answer {
     Linked(u16),
 }
 
-// A head behind its turn, the answer, and how many copies are then in flight.
+// The answer, the head's next nonce, and how many copies are then in flight.
 pub struct Turned {
-    pub seat: Seat,
     pub answer: Answer,
+    pub nonce: u32,
     pub flying: usize,
 }
 
@@ -124,23 +129,26 @@ fn port_to(n: Network, c: Copy) -> Port
 // A head steps on an arrival, and what it sends goes out.
 fn step_head(
     plugs: &[u8],
-    seat: Seat,
+    setup: Setup,
+    nonce: u32,
+    addresses: &mut [u64],
+    ports: &mut [u8],
+    hops: &mut [u8],
+    cells: &mut [u8],
     words: &mut [[u64; 3]],
     flying: usize,
     switch: u8,
     a: Arrival,
 ) -> Turned
-    requires { ⌜ Kept (now words) flying × (a .port < 16) ⌝ }
-    ensures { λ r. ⌜ ((n : Network) (up : List Bool) → now (plugs .entry) ≡ plugsOf n → Turns (steps n up switch seat a (copiesIn flying (now (words .entry)))) up (r .seat) (now (words .exit)) (r .flying) (r .answer)) ⌝ }
+    requires { ⌜ Kept (now words) flying × (a .port < 16) × Sized (tableOf (now addresses) (now ports) (now hops)) ⌝ }
+    ensures turns { λ r. ⌜ ((n : Network) (up : List Bool) → now (plugs .entry) ≡ plugsOf n → Turns (steps n up switch (seatIn setup nonce (now (addresses .entry)) (now (ports .entry)) (now (hops .entry)) (now (cells .entry))) a (copiesIn flying (now (words .entry)))) up (seatIn setup (r .nonce) (now (addresses .exit)) (now (ports .exit)) (now (hops .exit)) (now (cells .exit))) (now (words .exit)) (r .flying) (r .answer)) ⌝ }
     ensures words { λ r. ⌜ Written flying (now (words .entry)) (r .flying) (now (words .exit)) ⌝ }
 {
-    let w = seat.step(a);
-    let r = w.report;
+    let t = step(setup, nonce, addresses, ports, hops, cells, a);
+    let r = t.report;
     let v = r.verdict;
     let s = send_out(plugs, switch, a, v, words, flying);
-    let after = w.seat;
     Turned {
-        seat: after,
         answer: Answer::Stepped(Report {
             switch,
             port: a.port,
@@ -152,6 +160,7 @@ fn step_head(
             received: s.received,
             overwrote: r.overwrote,
         }),
+        nonce: t.nonce,
         flying: s.flying,
     }
 }
@@ -159,32 +168,54 @@ fn step_head(
 // Kind 4: a host presents a frame and its switch steps at once.
 fn present(
     plugs: &[u8],
-    seat: Seat,
+    setup: Setup,
+    nonce: u32,
+    addresses: &mut [u64],
+    ports: &mut [u8],
+    hops: &mut [u8],
+    cells: &mut [u8],
     words: &mut [[u64; 3]],
     flying: usize,
     h: Host,
     to: u64,
 ) -> Turned
-    requires { ⌜ Kept (now words) flying × (h .port .number < 16) ⌝ }
-    ensures { λ r. ⌜ ((n : Network) (up : List Bool) → now (plugs .entry) ≡ plugsOf n → Turns (presents n up seat (copiesIn flying (now (words .entry))) h to) up (r .seat) (now (words .exit)) (r .flying) (r .answer)) ⌝ }
+    requires { ⌜ Kept (now words) flying × (h .port .number < 16) × Sized (tableOf (now addresses) (now ports) (now hops)) ⌝ }
+    ensures turns { λ r. ⌜ ((n : Network) (up : List Bool) → now (plugs .entry) ≡ plugsOf n → Turns (presents n up (seatIn setup nonce (now (addresses .entry)) (now (ports .entry)) (now (hops .entry)) (now (cells .entry))) (copiesIn flying (now (words .entry))) h to) up (seatIn setup (r .nonce) (now (addresses .exit)) (now (ports .exit)) (now (hops .exit)) (now (cells .exit))) (now (words .exit)) (r .flying) (r .answer)) ⌝ }
     ensures words { λ r. ⌜ Laid (take flying (now (words .entry))) (now (words .entry)) (r .flying) (now (words .exit)) ⌝ }
 {
     let port = h.port;
-    let a = seat.from_host(port.number, h.address, to);
-    step_head(plugs, seat, words, flying, port.switch, a)
+    let a = from_host(nonce, addresses, ports, hops, port.number, h.address, to);
+    step_head(
+        plugs,
+        setup,
+        nonce,
+        addresses,
+        ports,
+        hops,
+        cells,
+        words,
+        flying,
+        port.switch,
+        a,
+    )
 }
 
 // Kind 5: the copy at a place is taken out, those behind move up one, its switch steps.
 fn take(
     network: Network,
     plugs: &[u8],
-    seat: Seat,
+    setup: Setup,
+    nonce: u32,
+    addresses: &mut [u64],
+    ports: &mut [u8],
+    hops: &mut [u8],
+    cells: &mut [u8],
     words: &mut [[u64; 3]],
     flying: usize,
     place: usize,
 ) -> Turned
-    requires { ⌜ Kept (now words) flying × CanTake network (copiesIn flying (now words)) place ⌝ }
-    ensures { λ r. ⌜ ((up : List Bool) → now (plugs .entry) ≡ plugsOf network → Turns (takes network up seat (copiesIn flying (now (words .entry))) place) up (r .seat) (now (words .exit)) (r .flying) (r .answer)) ⌝ }
+    requires { ⌜ Kept (now words) flying × CanTake network (copiesIn flying (now words)) place × Sized (tableOf (now addresses) (now ports) (now hops)) ⌝ }
+    ensures turns { λ r. ⌜ ((up : List Bool) → now (plugs .entry) ≡ plugsOf network → Turns (takes network up (seatIn setup nonce (now (addresses .entry)) (now (ports .entry)) (now (hops .entry)) (now (cells .entry))) (copiesIn flying (now (words .entry))) place) up (seatIn setup (r .nonce) (now (addresses .exit)) (now (ports .exit)) (now (hops .exit)) (now (cells .exit))) (now (words .exit)) (r .flying) (r .answer)) ⌝ }
     ensures words { λ r. ⌜ Laid (without place (take flying (now (words .entry)))) (now (words .entry)) (r .flying) (now (words .exit)) ⌝ }
 {
     let c = copy_at(words, place);
@@ -192,7 +223,19 @@ fn take(
     let h = c.header;
     let a = from_link(port.number, c.source, c.destination, h);
     take_out(words, flying, place);
-    step_head(plugs, seat, words, flying - 1, port.switch, a)
+    step_head(
+        plugs,
+        setup,
+        nonce,
+        addresses,
+        ports,
+        hops,
+        cells,
+        words,
+        flying - 1,
+        port.switch,
+        a,
+    )
 }
 
 // What a link's state spares: all but the copies on it, where it is down.
@@ -206,16 +249,17 @@ fn spare(words: &mut [[u64; 3]], flying: usize, link: u8, state: bool) -> usize
     cut(words, flying, link)
 }
 
-// Kind 6: a link is set; set down it loses the copies on it.
+// Kind 6: a link is set; set down it loses the copies on it. The head stays as it is.
 fn set_link(
     up: &mut [bool],
-    seat: Seat,
+    nonce: u32,
     words: &mut [[u64; 3]],
     flying: usize,
     s: Setting,
 ) -> Turned
     requires { ⌜ Kept (now words) flying × (s .link < mostLinks) × (length (now up) ≡ mostLinks) ⌝ }
-    ensures { λ r. ⌜ Turns (sets (now (up .entry)) seat (copiesIn flying (now (words .entry))) (s .link) (spec.isUp (s .state))) (now (up .exit)) (r .seat) (now (words .exit)) (r .flying) (r .answer) ⌝ }
+    ensures turns { λ r. ⌜ ((seat : Seat) → Turns (sets (now (up .entry)) seat (copiesIn flying (now (words .entry))) (s .link) (spec.isUp (s .state))) (now (up .exit)) seat (now (words .exit)) (r .flying) (r .answer)) ⌝ }
+    ensures nonce { λ r. ⌜ r .nonce ≡ nonce ⌝ }
     ensures words { λ r. ⌜ Laid (spec.sparedWordsBy (spec.isUp (s .state)) (s .link) (take flying (now (words .entry)))) (now (words .entry)) (r .flying) (now (words .exit)) ⌝ }
 {
     let state = s.state == 1;
@@ -224,8 +268,8 @@ fn set_link(
     let left = spare(words, flying, s.link, state);
     let gone = (flying - left) as u16;
     Turned {
-        seat,
         answer: Answer::Linked(gone),
+        nonce,
         flying: left,
     }
 }
@@ -262,13 +306,18 @@ pub fn turn(
     network: Network,
     plugs: &[u8],
     up: &mut [bool],
-    seat: Seat,
+    setup: Setup,
+    nonce: u32,
+    addresses: &mut [u64],
+    ports: &mut [u8],
+    hops: &mut [u8],
+    cells: &mut [u8],
     words: &mut [[u64; 3]],
     flying: usize,
     e: Event,
 ) -> Turned
-    requires { ⌜ Kept (now words) flying × (length (now up) ≡ mostLinks) × (now plugs ≡ plugsOf network) × CanTurn network (copiesIn flying (now words)) e ⌝ }
-    ensures { λ r. ⌜ Turns (turnOf network (now (up .entry)) seat (copiesIn flying (now (words .entry))) e) (now (up .exit)) (r .seat) (now (words .exit)) (r .flying) (r .answer) ⌝ }
+    requires { ⌜ Kept (now words) flying × (length (now up) ≡ mostLinks) × (now plugs ≡ plugsOf network) × CanTurn network (copiesIn flying (now words)) e × Sized (tableOf (now addresses) (now ports) (now hops)) ⌝ }
+    ensures turns { λ r. ⌜ Turns (turnOf network (now (up .entry)) (seatIn setup nonce (now (addresses .entry)) (now (ports .entry)) (now (hops .entry)) (now (cells .entry))) (copiesIn flying (now (words .entry))) e) (now (up .exit)) (seatIn setup (r .nonce) (now (addresses .exit)) (now (ports .exit)) (now (hops .exit)) (now (cells .exit))) (now (words .exit)) (r .flying) (r .answer) ⌝ }
     ensures words { λ r. ⌜ Laid (staying e (take flying (now (words .entry)))) (now (words .entry)) (r .flying) (now (words .exit)) ⌝ }
 {
     match e {
@@ -276,15 +325,32 @@ pub fn turn(
             let to = p.to;
             present(
                 plugs,
-                seat,
+                setup,
+                nonce,
+                addresses,
+                ports,
+                hops,
+                cells,
                 words,
                 flying,
                 host_of(network, p.host),
                 to.number(),
             )
         }
-        Event::Take(place) => take(network, plugs, seat, words, flying, place as usize),
-        Event::Link(s) => set_link(up, seat, words, flying, s),
+        Event::Take(place) => take(
+            network,
+            plugs,
+            setup,
+            nonce,
+            addresses,
+            ports,
+            hops,
+            cells,
+            words,
+            flying,
+            place as usize,
+        ),
+        Event::Link(s) => set_link(up, nonce, words, flying, s),
     }
 }
 

@@ -5,15 +5,6 @@ use borrow.Author.Needs.{needs}
 use Rattle.seat.proofs.is_unknown.Statement.{statement}
 use Rattle.seat.proofs.is_unknown.Tie as tie
 
-slice-aggregate-lookup-in : tie.Need-slice-aggregate-lookup-in
-slice-aggregate-lookup-in c = search needs
-
-slice-aggregate-lookup-in-2 : tie.Need-slice-aggregate-lookup-in-2
-slice-aggregate-lookup-in-2 c = search needs
-
-slice-aggregate-lookup-in-3 : tie.Need-slice-aggregate-lookup-in-3
-slice-aggregate-lookup-in-3 c = search needs
-
 lookup-in-requires : tie.Need-lookup-in-requires
 lookup-in-requires c κs = search needs
 
@@ -32,14 +23,4 @@ returns-2 c =
     rw (sym (told-apart _ _ (c .before .before .lookup-in .ensures)), c .enum-told2 .given .1)
 
 pub is-unknown-spec : {M : Type 1} → statement M
-is-unknown-spec =
-    tie.close
-    (tie.spec
-    slice-aggregate-lookup-in
-    slice-aggregate-lookup-in-2
-    slice-aggregate-lookup-in-3
-    lookup-in-requires
-    enum-told
-    enum-told-2
-    returns
-    returns-2)
+is-unknown-spec = tie.close (tie.spec lookup-in-requires enum-told enum-told-2 returns returns-2)

@@ -1,4 +1,5 @@
 -- The state is written, and what was in flight and is not any more was cut.
+use mathlib.Core.Path.{refl}
 use Rattle.turn.proofs.Writing.{laid-spared}
 use Rattle.turn.proofs.Turning.{set-is}
 use borrow.Author.Needs.{needs}
@@ -29,7 +30,7 @@ same-length-2 c = search needs
 returns : tie.Need-returns
 returns c =
     let spares = c .before .spare .ensures in
-    (set-is _ _ (c .before .before .before .before .before .before .pre .0) spares, laid-spared spares)
+    ((λ seat. set-is _ seat (c .before .before .before .before .before .before .pre .0) spares), (refl, laid-spared spares))
 
 pub set-link-spec : {M : Type 1} → statement M
 set-link-spec =

@@ -31,17 +31,17 @@ head-at-requires c κs =
     let whole : length (words .result) ≡ most = search needs in
     head-inside (start .args .self) (start .args .e) (start .pre) (words .ensures) whole (c .head-of .ensures .0)
 
-slice-aggregate-turn : tie.Need-slice-aggregate-turn
-slice-aggregate-turn c = search needs
+slice-aggregate-take-turn : tie.Need-slice-aggregate-take-turn
+slice-aggregate-take-turn c = search needs
 
-slice-aggregate-turn-2 : tie.Need-slice-aggregate-turn-2
-slice-aggregate-turn-2 c = let good = c .before .before .before .before .before .before .before .before .before .before .before .good in search needs
+slice-aggregate-take-turn-2 : tie.Need-slice-aggregate-take-turn-2
+slice-aggregate-take-turn-2 c = let good = c .before .before .before .before .before .before .before .before .before .before .before .good in search needs
 
-slice-aggregate-turn-3 : tie.Need-slice-aggregate-turn-3
-slice-aggregate-turn-3 c = search needs
+slice-aggregate-take-turn-3 : tie.Need-slice-aggregate-take-turn-3
+slice-aggregate-take-turn-3 c = search needs
 
-turn-requires : tie.Need-turn-requires
-turn-requires c κs =
+take-turn-requires : tie.Need-take-turn-requires
+take-turn-requires c κs =
     let good = c .before .before .before .before .before .before .before .before .before .before .before .before .good in
     let start = c .before .before .before .before .before .before .before .before .before .before .before .before in
     let words = c .before .before .before .before .before .before .before .words-of in
@@ -80,7 +80,7 @@ returns c =
     let start = c .before .before .before .before .before .before .before .before .before .before .before .before .before .before .before .before .before .before .before .before .before in
     let words = c .before .before .before .before .before .before .before .before .before .before .before .before .before .before .before .before .words-of in
     let whole : length (words .result) ≡ most = search needs in
-    happens (start .args .self) (start .args .e) (start .pre) (words .ensures) whole (head-is (start .args .self) (start .args .e) (start .pre) (words .ensures) whole (c .before .before .before .before .before .before .before .before .before .before .before .before .before .head-of .ensures .0)) (c .before .before .before .before .before .before .before .before .before .before .before .before .head-at .ensures) (c .before .before .before .before .before .before .before .before .turn .ensures .0) (c .before .before .follow .ensures) (c .copies-of .ensures)
+    happens (start .args .self) (start .args .e) (start .pre) (words .ensures) whole (head-is (start .args .self) (start .args .e) (start .pre) (words .ensures) whole (c .before .before .before .before .before .before .before .before .before .before .before .before .before .head-of .ensures .0)) (c .before .before .before .before .before .before .before .before .before .before .before .before .head-at .ensures) (c .before .before .before .before .before .before .before .before .take-turn .ensures) (c .before .before .follow .ensures) (c .copies-of .ensures)
 
 pub happen-spec : {M : Type 1} → statement M
 happen-spec =
@@ -92,10 +92,10 @@ happen-spec =
     head-of-requires
     cast-k
     head-at-requires
-    slice-aggregate-turn
-    slice-aggregate-turn-2
-    slice-aggregate-turn-3
-    turn-requires
+    slice-aggregate-take-turn
+    slice-aggregate-take-turn-2
+    slice-aggregate-take-turn-3
+    take-turn-requires
     mul-seats
     array-set-from-seats
     slice-aggregate-follow

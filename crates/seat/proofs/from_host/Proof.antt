@@ -1,8 +1,8 @@
 -- F is what the table answers, the rest of the header stands written.
 use Rattle.seat.specs.Seat.{fromHost}
 use borrow.Author.Needs.{needs}
-use Rattle.seat.proofs.Seat.from_host.Statement.{statement}
-use Rattle.seat.proofs.Seat.from_host.Tie as tie
+use Rattle.seat.proofs.from_host.Statement.{statement}
+use Rattle.seat.proofs.from_host.Tie as tie
 
 is-unknown-requires : tie.Need-is-unknown-requires
 is-unknown-requires c κs = search needs
