@@ -1,31 +1,43 @@
 -- The first place of an address in a list, and how it moves when a place is written.
-use mathlib.Core.Path.{_≡_, refl, ap, sym, _∙_}
+use mathlib.Core.Path.{_≡_, refl, ap, subst, sym, _∙_}
 use mathlib.Core.Logic.{_≢_, ⊎-elim}
 use mathlib.Core.List.{List, [], _∷_}
 use mathlib.Core.Bool.{Bool, true, false, cond}
-use Prim.Native.Nat.{ℕ, zero, suc, _+_, _<_, _≤_}
+use Prim.Native.Nat.{ℕ, zero, suc, _+_, _-_, _<_, _≤_}
 use native.Mathlib.Numerals.{add-one}
-use native.Mathlib.Nat.{add-zero, not-suc-le-zero, le-of-suc-le-suc, not-le-of-lt, eq-or-lt-of-le}
+use native.Mathlib.Nat.{add-zero, zero-add, not-suc-le-zero, le-of-suc-le-suc, not-le-of-lt, eq-or-lt-of-le}
 use native.Mathlib.Omega.{arith}
 use lib.ListN.{length, getD, set, drop, drop-of-length-le}
 use lib.Dec.{eqb, ltb}
 use lib.Seq.{drop-cons}
 use borrow.Author.Tests.{eq-eqb, ne-eqb, eqb-true, lt-ltb, ltb-true, ltb-false}
-use Rattle.table.specs.Table.{slotFor, slotOf}
+use Rattle.table.specs.Table.{NoneOf, Passed, slotFor, slotOf}
 
--- a search that has read i places without finding x goes on with the rest
-module _ (x : ℕ) (l : List ℕ) (i : ℕ) (h : i < length l) (e : slotOf x l ≡ i + slotOf x (drop i l)) where
-  pub slot-here : getD l i 0 ≡ x → slotOf x l ≡ i
+-- a search that passed i slots
+module _ (x : ℕ) (l : List ℕ) (i : ℕ) (p : Passed x l i) where
+  pub slot-here : i < length l → getD l i 0 ≡ x → slotOf x l ≡ i
   unfolding slotOf
-  slot-here q = e ∙ rw (drop-cons l i 0 h, eq-eqb (getD l i 0) x q) (add-zero i)
+  slot-here h q = p .rest ∙ rw (drop-cons l i 0 h, eq-eqb (getD l i 0) x q) (add-zero i)
 
-  pub slot-next : (getD l i 0 ≡ x → ⊥) → slotOf x l ≡ i + 1 + slotOf x (drop (i + 1) l)
+  pub slot-next : i < length l → getD l i 0 ≢ x → Passed x l (i + 1)
   unfolding slotOf
-  slot-next q = e ∙ rw (add-one, drop-cons l i 0 h, ne-eqb (getD l i 0) x q) (omega arith)
+  slot-next h q = record { within = omega arith; rest = p .rest ∙ rw (add-one, drop-cons l i 0 h, ne-eqb (getD l i 0) x q) (omega arith) }
 
-pub slot-end : (x : ℕ) (l : List ℕ) (i : ℕ) → length l ≤ i → slotOf x l ≡ i + slotOf x (drop i l) → i ≡ slotOf x l
-unfolding slotOf
-slot-end x l i h e = sym (rw (drop-of-length-le l h) at e ∙ add-zero i)
+  pub slot-end : length l ≤ i → i ≡ slotOf x l
+  unfolding slotOf
+  slot-end h = sym (rw (drop-of-length-le l h) at (p .rest) ∙ add-zero i)
+
+-- four at a time
+pub slots-next : (x : ℕ) (l : List ℕ) (i : ℕ) → Passed x l i → 4 ≤ length l - i → NoneOf x (getD l i 0) (getD l (i + 1) 0) (getD l (i + 2) 0) (getD l (i + 3) 0) → Passed x l (i + 4)
+slots-next x l i p more none =
+    let next : (j k : ℕ) → j < length l → Passed x l j → getD l j 0 ≢ x → k ≡ j + 1 → Passed x l k = λ j k h q off e. subst (Passed x l) (sym e) (slot-next x l j q h off) in
+    let one = next i (i + 1) (omega arith) p (none .first) refl in
+    let two = next (i + 1) (i + 2) (omega arith) one (none .second) (omega arith) in
+    let three = next (i + 2) (i + 3) (omega arith) two (none .third) (omega arith) in
+    next (i + 3) (i + 4) (omega arith) three (none .fourth) (omega arith)
+
+pub none-passed : (x : ℕ) (l : List ℕ) → Passed x l 0
+none-passed x l = record { within = omega arith; rest = sym (zero-add (slotOf x l)) }
 
 module _ (x : ℕ) where
   -- it is at most any place of x

@@ -1,11 +1,11 @@
 -- The learning table of document 01, "The head's switch". A slot is a place of three lists: an address, a port and a hop count. Clients cite what
 -- stands above "The tests", by the laws of proofs/Laws; the tests are what the code computes of `WellFormed`, and the laws say that they agree.
-use Prim.Native.Nat.{ℕ, zero, suc, _/_, _%_, _^_, _<_, _≤_}
+use Prim.Native.Nat.{ℕ, zero, suc, _+_, _/_, _%_, _^_, _<_, _≤_}
 use mathlib.Core.Path.{_≡_}
 use mathlib.Core.Logic.{_⊎_, _≢_}
 use mathlib.Core.Bool.{Bool, true, false, cond, not, _&&_}
 use mathlib.Core.List.{List, [], _∷_}
-use lib.ListN.{getD, set, replicate, length}
+use lib.ListN.{drop, getD, set, replicate, length}
 use lib.Dec.{eqb, ltb, leb}
 use lib.Bits.{bitXor}
 use Rattle.wire.specs.Address.{Source, isSource}
@@ -69,6 +69,18 @@ emptyTable = tableOf (replicate slots 0) (replicate slots 0) (replicate slots 0)
 unfoldable pub slotOf : ℕ → List ℕ → ℕ
 slotOf x [] = 0
 slotOf x (y ∷ ys) = cond (eqb y x) 0 (suc (slotOf x ys))
+
+-- a search that passed i slots, none of which has x, goes on with the rest
+pub record Passed (x : ℕ) (l : List ℕ) (i : ℕ) : Type 0 where
+  pub within : i ≤ length l
+  pub rest : slotOf x l ≡ i + slotOf x (drop i l)
+
+-- none of four is x
+pub record NoneOf (x a b c d : ℕ) : Type 0 where
+  pub first : a ≢ x
+  pub second : b ≢ x
+  pub third : c ≢ x
+  pub fourth : d ≢ x
 
 -- ---- Looking up
 

@@ -3,10 +3,11 @@
 // One search serves everything, the first place of an address among the slots: it finds an entry, it finds the lowest empty slot (the first
 // place of zero), and no address stands twice exactly where each is in its own first place. The work is done on the three arrays lent as
 // slices, so that who keeps them elsewhere copies nothing; the methods of `Table` are the same by value.
+ghost use mathlib.Core.Bool.{false};
 ghost use mathlib.Core.Path.{_≡_};
 ghost use Prim.Native.Nat.{_<_, ℕ};
 ghost use lib.ListN.{getD};
-ghost use Rattle.table.specs.Table.{Sized, emptyTable, eraseOf, learnOf, learnedOf, lookupOf, markOf, marks, mayHold, slotFits, slotFor, slotOf, slots, tableOf, told, wellFormed};
+ghost use Rattle.table.specs.Table.{NoneOf, Passed, Sized, emptyTable, eraseOf, learnOf, learnedOf, lookupOf, markOf, marks, mayHold, slotFits, slotFor, slotOf, slots, tableOf, told, wellFormed};
 
 // Slot i is place i of the three arrays, and an empty slot is zero in all three.
 pub struct Table {
@@ -103,11 +104,45 @@ impl Table {
     }
 }
 
+// Whether one of four slots holds an address.
+fn is_one_of(address: u64, a: u64, b: u64, c: u64, d: u64) -> bool
+    ensures { λ r. ⌜ (r ≡ false → NoneOf address a b c d) ⌝ }
+{
+    if a == address {
+        return true;
+    }
+    if b == address {
+        return true;
+    }
+    if c == address {
+        return true;
+    }
+    d == address
+}
+
+// Four slots at a time: from where on an address is to be searched for slot by slot. No slot before has it.
+fn passed(addresses: &[u64], address: u64) -> usize
+    ensures { λ r. ⌜ Passed address (now (addresses .entry)) r ⌝ }
+{
+    let mut slot: usize = 0;
+    while 4 <= addresses.len() - slot {
+        let a = addresses[slot];
+        let b = addresses[slot + 1];
+        let c = addresses[slot + 2];
+        let d = addresses[slot + 3];
+        if is_one_of(address, a, b, c, d) {
+            return slot;
+        }
+        slot += 4;
+    }
+    slot
+}
+
 // The first place of an address, or the length.
 pub fn slot_of(addresses: &[u64], address: u64) -> usize
     ensures { λ r. ⌜ r ≡ slotOf address (now (addresses .entry)) ⌝ }
 {
-    let mut slot: usize = 0;
+    let mut slot = passed(addresses, address);
     while slot < addresses.len() {
         if addresses[slot] == address {
             return slot;

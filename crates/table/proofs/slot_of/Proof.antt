@@ -1,19 +1,22 @@
 -- The search goes from the front: an address that is not among the slots passed has its first place among the rest.
 use borrow.Author.Needs.{needs}
-use lib.ListN.{drop, length}
-use mathlib.Core.Path.{_≡_, sym}
+use lib.ListN.{length}
+use mathlib.Core.Path.{sym}
 use native.Mathlib.Omega.{arith}
-use Prim.Native.Nat.{_≤_, _+_, _-_}
-use Rattle.table.specs.Table.{slotOf}
+use Prim.Native.Nat.{_-_}
+use Rattle.table.specs.Table.{Passed}
 use Rattle.table.proofs.Slots.{slot-here, slot-next, slot-end}
 use Rattle.table.proofs.slot_of.Statement.{statement}
 use Rattle.table.proofs.slot_of.Tie as tie
 
 abbrev Inv-loop : tie.InvT-loop
-Inv-loop addresses address slot₀ slot = (slot ≤ length addresses) × (slotOf address addresses ≡ slot + slotOf address (drop slot addresses))
+Inv-loop addresses address slot₀ slot = Passed address addresses slot
 
 abbrev μ-loop : tie.MeasureT-loop
 μ-loop addresses address slot₀ slot = length addresses - slot
+
+passed-requires : tie.Need-passed-requires Inv-loop μ-loop
+passed-requires c κs = search needs
 
 loop-holds : tie.Need-loop-holds Inv-loop μ-loop
 loop-holds c = search needs
@@ -25,7 +28,7 @@ shared-slice-read-if1 : tie.Need-shared-slice-read-if1 Inv-loop μ-loop
 shared-slice-read-if1 c = search needs
 
 returns : tie.Need-returns Inv-loop μ-loop
-returns c = sym (slot-here _ _ _ (omega arith) (c .before .before .before .loop .inv .1) (c .if1 .taken))
+returns c = sym (slot-here _ _ _ (c .before .before .before .loop .inv) (omega arith) (c .if1 .taken))
 
 add-slot : tie.Need-add-slot Inv-loop μ-loop
 add-slot c = search needs
@@ -34,10 +37,10 @@ loop-less : tie.Need-loop-less Inv-loop μ-loop
 loop-less c = search needs
 
 loop-again : tie.Need-loop-again Inv-loop μ-loop
-loop-again c = (omega arith, slot-next _ _ _ (omega arith) (c .before .before .before .loop .inv .1) (c .if1 .left))
+loop-again c = slot-next _ _ _ (c .before .before .before .loop .inv) (omega arith) (c .if1 .left)
 
 returns-2 : tie.Need-returns-2 Inv-loop μ-loop
-returns-2 c = slot-end _ _ _ (omega arith) (c .before .loop .inv .1)
+returns-2 c = slot-end _ _ _ (c .before .loop .inv) (omega arith)
 
 pub slot-of-spec : {M : Type 1} → statement M
 slot-of-spec =
@@ -45,6 +48,7 @@ slot-of-spec =
     (tie.spec
     Inv-loop
     μ-loop
+    passed-requires
     loop-holds
     mul-if1
     shared-slice-read-if1
