@@ -7,7 +7,7 @@
 ghost use mathlib.Core.Bool.{true};
 ghost use mathlib.Core.Path.{_≡_};
 ghost use Prim.Native.Nat.{_<_, _≤_};
-ghost use lib.ListN.{getD, length, take};
+ghost use lib.ListN.{getD, length};
 ghost use Rattle.network.specs.Network.{mostLinks, mostSwitches, padded};
 ghost use Rattle.cabling.specs.Cabling.{plugsOf};
 ghost use Rattle.flight.specs.Flight.{copiesIn};

@@ -1,5 +1,4 @@
 -- Each kind of event is the turn of its own function.
-use mathlib.Core.Path.{ap}
 use Rattle.turn.proofs.Turning.{present-can, take-can, link-can, present-turn, take-turn, link-turn, present-stays, take-stays, link-stays, turns-as}
 use lib.ListN.{take}
 use Rattle.flight.specs.Flight.{copiesIn}
