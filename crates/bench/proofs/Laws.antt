@@ -4,6 +4,7 @@ use mathlib.Core.Path.{_≡_, refl, _∙_}
 use mathlib.Core.Bool.{true}
 use native.Mathlib.Omega.{arith}
 use lib.ListN.{getD, length, length-replicate, List·getD-append}
+use Rattle.wire.proofs.Below.{each-below}
 use Rattle.network.specs.declared.Network.{Network}
 use Rattle.network.specs.Network.{mostLinks, mostSwitches}
 use Rattle.network.specs.Checks.{networkFault}
@@ -29,7 +30,7 @@ use Rattle.bench.proofs.Heads.{heads-at, heads-length}
 use Rattle.bench.proofs.Keeping as keeping
 use Rattle.bench.proofs.Keeping.{free, kept, lawful, stays, steps-truly}
 use Rattle.bench.proofs.Lists.{padded-length}
-use Rattle.bench.proofs.Tested.{all-pass, found-in-shape, passes-in-shape, seat-found}
+use Rattle.bench.proofs.Tested.{found-in-shape, passes-in-shape, seat-found}
 pub use Rattle.bench.proofs.After.{event-answer, event-network, event-sized, event-up, few-in-flight, flying-after, in-flight-after, seat-after}
 pub use Rattle.bench.proofs.Following.{follow-again, follow-at, follow-length}
 
@@ -40,7 +41,7 @@ unfolding seatAt
 tested-both-ways b sized tables = (
   found-in-shape b sized (λ e k h.
       seat-found (b .network) (b .up) k (getD (b .seats) k noSeat) (tables k h)
-      (all-pass (λ j. seatFits (b .network) (b .up) j (getD (b .seats) j noSeat)) (b .network .nswitches) e k h)),
+      (each-below (λ j. seatFits (b .network) (b .up) j (getD (b .seats) j noSeat)) (b .network .nswitches) e k h)),
   passes-in-shape b sized,
 )
 

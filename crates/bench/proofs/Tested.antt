@@ -1,5 +1,5 @@
 -- Refusal 28's tests hold exactly where what they are named for is so.
-use Prim.Native.Nat.{ℕ, zero, suc, _+_, _^_, _<_, _≤_}
+use Prim.Native.Nat.{ℕ, zero, _+_, _^_, _<_, _≤_}
 use mathlib.Core.Path.{_≡_, refl, sym, ap, _∙_}
 use mathlib.Core.Logic.{_↔_, by-cases}
 use mathlib.Core.Bool.{Bool, true, false, not, _&&_, and-eq-true-iff, true≢false}
@@ -14,6 +14,8 @@ use borrow.Author.Tests.{eq-eqb, eqb-true, eqb-false, ne-eqb, lt-ltb, ltb-true, 
 use Rattle.refusal.specs.Refusal.{first, outside}
 use Rattle.refusal.proofs.Laws.{inside, not-outside}
 use Rattle.wire.specs.Address.{isSource}
+use Rattle.wire.specs.Below.{allBelow}
+use Rattle.wire.proofs.Below.{all-below, each-below}
 use Rattle.wire.proofs.Laws.{source-iff}
 use Rattle.table.specs.Table as table
 use Rattle.network.specs.declared.Network.{Network}
@@ -29,7 +31,7 @@ use Rattle.flight.proofs.Laws.{all-at, all-places}
 use Rattle.turn.specs.Fits.{CopyFits, SeatFits}
 use Rattle.bench.specs.declared.Bench.{Bench}
 use Rattle.bench.specs.Bench.{inFlight, noSeat, seatAt}
-use Rattle.bench.specs.Shape.{InShape, Sized, inShape, allPass, copiesFit, copyFits, hasAddresses, onLiveLink, sameSetup, seatFits, seatsFit}
+use Rattle.bench.specs.Shape.{InShape, Sized, inShape, copiesFit, copyFits, hasAddresses, onLiveLink, sameSetup, seatFits, seatsFit}
 
 -- both of two tests
 halves : (a b : Bool) → (a && b) ≡ true → (a ≡ true) × (b ≡ true)
@@ -95,31 +97,18 @@ module _ (n : Network) (up : List Bool) (k : ℕ) (s : Seat) where
 
 -- ---- Those from 0 on
 
-module _ (test : ℕ → Bool) where
-  pub all-pass : (m : ℕ) → allPass test m ≡ true → (k : ℕ) → k < m → test k ≡ true
-  unfolding allPass
-  all-pass zero e k h = absurd (omega arith)
-  all-pass (suc m) e k h =
-      let (before, last) = halves (allPass test m) (test m) e in
-      by-cases (ℕ-discrete k m) (λ d. rw d last) (λ d. all-pass m before k (omega arith))
-
-  pass-all : (m : ℕ) → ((k : ℕ) → k < m → test k ≡ true) → allPass test m ≡ true
-  unfolding allPass
-  pass-all zero h = refl
-  pass-all (suc m) h = join (allPass test m) (test m) (pass-all m (λ k l. h k (omega arith))) (h m (omega arith))
-
 -- a loop over them: whether all so far pass the test, and what that means of each
 pub record Passing (test : ℕ → Bool) (P : ℕ → Type 0) (k : ℕ) (fit : Bool) : Type 0 where
-  pub so-far : fit ≡ allPass test k
+  pub so-far : fit ≡ allBelow test k
   pub passed : fit ≡ true → (j : ℕ) → j < k → P j
 
 module _ {test : ℕ → Bool} {P : ℕ → Type 0} where
   pub passing-starts : Passing test P 0 true
-  unfolding allPass
+  unfolding allBelow
   passing-starts = record { so-far = refl; passed = λ e j h. absurd (omega arith) }
 
   pub passing-next : {k : ℕ} {fit one next : Bool} → Passing test P k fit → one ≡ test k → (one ≡ true → P k) → next ≡ (fit && one) → Passing test P (k + 1) next
-  unfolding allPass
+  unfolding allBelow
   passing-next {k} {fit} {one} v e means q = record {
     so-far = q ∙ rw (v .so-far, e, add-one);
     passed = λ t j h.
@@ -127,8 +116,8 @@ module _ {test : ℕ → Bool} {P : ℕ → Type 0} where
         by-cases (ℕ-discrete j k) (λ d. rw d (means b)) (λ d. v .passed a j (omega arith));
   }
 
-  pub passing-ends : {k m : ℕ} {fit : Bool} → Passing test P k fit → k ≤ m → m ≤ k → (fit ≡ allPass test m) × (fit ≡ true → (j : ℕ) → j < m → P j)
-  passing-ends {k} {m} v a b = let e : k ≡ m = omega arith in (v .so-far ∙ ap (λ i. allPass test i) e, λ t j h. v .passed t j (omega arith))
+  pub passing-ends : {k m : ℕ} {fit : Bool} → Passing test P k fit → k ≤ m → m ≤ k → (fit ≡ allBelow test m) × (fit ≡ true → (j : ℕ) → j < m → P j)
+  passing-ends {k} {m} v a b = let e : k ≡ m = omega arith in (v .so-far ∙ ap (λ i. allBelow test i) e, λ t j h. v .passed t j (omega arith))
 
 -- the heads one by one
 pub seat-next : (n : Network) (up : List Bool) (seats : List Seat) {k : ℕ} {fit one next : Bool} {s : Seat}
@@ -189,10 +178,10 @@ module _ (n : Network) (up : List Bool) where
       there : copiesFit (n .nlinks) up copies m ≡ true → All (CopyFits n up) (take m copies)
       there e = all-places (take m copies) (λ i l.
           let short : i < m = omega (arith, length-take-le m copies h) in
-          rw (getD-take m copies i noCopy short) (copy-tested _ .0 (all-pass test m e i short)))
+          rw (getD-take m copies i noCopy short) (copy-tested _ .0 (each-below test m e i short)))
 
       back : All (CopyFits n up) (take m copies) → copiesFit (n .nlinks) up copies m ≡ true
-      back fit = pass-all test m (λ i l.
+      back fit = all-below test m (λ i l.
           copy-tested _ .1 (rw (getD-take m copies i noCopy l) at (all-at fit i (omega (arith, length-take-le m copies h)))))
 
 -- ---- The bench
@@ -225,7 +214,7 @@ module _ (b : Bench) (sized : Sized b) where
   unfolding inShape inFlight seatAt
   passes-in-shape v = rw (
     eq-eqb (networkFault (b .network)) 0 (v .described),
-    pass-all (λ k. seatFits (b .network) (b .up) k (getD (b .seats) k noSeat)) (b .network .nswitches) (λ k h. seat-passes (b .network) (b .up) k _ (v .seats k h)),
+    all-below (λ k. seatFits (b .network) (b .up) k (getD (b .seats) k noSeat)) (b .network .nswitches) (λ k h. seat-passes (b .network) (b .up) k _ (v .seats k h)),
     le-leb (b .flying) most (v .few),
     copies-tested (b .network) (b .up) (b .copies) (b .flying) (omega (arith, sized .copies, v .few)) .1 (v .copies),
   )

@@ -1,12 +1,13 @@
 -- Refusal 28, as far as it is about the bench: `inShape` is what is checked, `InShape` says in words what it has found. What a count leaves unused isn't asked.
-use Prim.Native.Nat.{ℕ, zero, suc, _^_, _<_, _≤_}
+use Prim.Native.Nat.{ℕ, _^_, _<_, _≤_}
 use mathlib.Core.Path.{_≡_}
-use mathlib.Core.Bool.{Bool, true, false, not, _&&_}
+use mathlib.Core.Bool.{Bool, false, not, _&&_}
 use mathlib.Core.List.{List}
 use lib.Dec.{eqb, leb, ltb}
 use lib.ListN.{getD, length}
 use Rattle.refusal.specs.Refusal.{first, outside}
 use Rattle.wire.specs.Address.{isSource}
+use Rattle.wire.specs.Below.{allBelow}
 use Rattle.network.specs.declared.Network.{Network}
 use Rattle.network.specs.Network.{mostLinks, mostSwitches}
 use Rattle.network.specs.Checks.{networkFault}
@@ -32,14 +33,9 @@ sameSetup a b = eqb (a .ports) (b .ports) && eqb (a .live) (b .live) && eqb (a .
 unfoldable pub seatFits : Network → List Bool → ℕ → Seat → Bool
 seatFits n up k s = sameSetup (s .switch .setup) (setupOf n (plugsOf n) up k) && eqb (first (switchCauses (s .switch) (s .cells))) 0
 
--- so many numbers from 0 on pass a test
-unfoldable pub allPass : (ℕ → Bool) → ℕ → Bool
-allPass test zero = true
-allPass test (suc k) = allPass test k && test k
-
 -- so many heads fit
 abbrev pub seatsFit : Network → List Bool → List Seat → ℕ → Bool
-seatsFit n up seats = allPass (λ k. seatFits n up k (getD seats k noSeat))
+seatsFit n up seats = allBelow (λ k. seatFits n up k (getD seats k noSeat))
 
 -- a link that there is, and that is up
 unfoldable pub onLiveLink : ℕ → List Bool → ℕ → Bool
@@ -56,7 +52,7 @@ copyFits links up c =
 
 -- so many copies fit
 abbrev pub copiesFit : ℕ → List Bool → List Copy → ℕ → Bool
-copiesFit links up copies = allPass (λ i. copyFits links up (getD copies i noCopy))
+copiesFit links up copies = allBelow (λ i. copyFits links up (getD copies i noCopy))
 
 -- the writer wouldn't refuse the description, the heads fit, there are at most 512 copies, and each fits
 unfoldable pub inShape : Bench → Bool

@@ -13,7 +13,6 @@ use lib.ListN.{length, getD, drop, length-take, length-drop, length-replicate}
 use lib.Seq.{drop-cons, drop-drop, take-add}
 use Rattle.wire.specs.Wire.{number, numberAfter, part}
 use Rattle.filter.specs.Filter.{same, empty, zeros}
-use Rattle.filter.specs.Triple.{allBelow}
 
 pub true-false : true ≡ false → ⊥
 true-false e = let z : _≡_ {A = ℕ} 0 1 = cc in omega arith
@@ -26,22 +25,6 @@ both-true false b e = absurd (true-false (sym e))
 pub refuted : (b : Bool) → (b ≡ true → ⊥) → b ≡ false
 refuted true h = absurd (h refl)
 refuted false h = refl
-
--- a test of every number below n, by what it says of each
-pub all-below : (t : ℕ → Bool) (n : ℕ) → ((k : ℕ) → k < n → t k ≡ true) → allBelow t n ≡ true
-unfolding allBelow
-all-below t zero h = refl
-all-below t (suc n) h = rw (h n (omega arith)) (all-below t n (λ k p. h k (omega arith)))
-
-pub each-below : (t : ℕ → Bool) (n : ℕ) → allBelow t n ≡ true → (k : ℕ) → k < n → t k ≡ true
-unfolding allBelow
-each-below t zero e k p = absurd (omega arith)
-each-below t (suc n) e k p =
-    let both : (t n ≡ true) × (allBelow t n ≡ true) = both-true (t n) (allBelow t n) e in
-    by-cases (ℕ-discrete k n) (λ d. rw d (both .0)) (λ d. each-below t n (both .1) k (omega arith))
-
-pub none-below : (t : ℕ → Bool) (n k : ℕ) → k < n → t k ≡ false → allBelow t n ≡ false
-none-below t n k h e = refuted (allBelow t n) λ all. let z : true ≡ false = sym (each-below t n all k h) ∙ e in true-false z
 
 pub same-refl : (l : List ℕ) → same l l ≡ true
 unfolding same

@@ -11,10 +11,12 @@ use borrow.Author.Tests.{eq-eqb, ne-eqb, eqb-true, ltb-true, lt-ltb}
 use lib.Dec.{eqb, ltb}
 use lib.ListN.{length, take, drop}
 use Rattle.wire.specs.Wire.{number, numberAfter, part}
+use Rattle.wire.specs.Below.{allBelow}
+use Rattle.wire.proofs.Below.{all-below, each-below}
 use Rattle.filter.specs.Filter.{cells, cell, zeros, empty, same, hasCell, cellOf, recorded, Names}
 use Rattle.wire.specs.Address.{groupBit}
-use Rattle.filter.specs.Triple.{width, sourceIn, lIn, Triple, Cell, Count, WellFormed, isCell, isLength, allBelow, wellFormed}
-use Rattle.filter.proofs.Bytes.{both-true, true-false, all-below, each-below, part-long, zeros-long, zeros-empty, empty-true}
+use Rattle.filter.specs.Triple.{width, sourceIn, lIn, Triple, Cell, Count, WellFormed, isCell, isLength, wellFormed}
+use Rattle.filter.proofs.Bytes.{both-true, true-false, part-long, zeros-long, zeros-empty, empty-true}
 use Rattle.filter.proofs.Places.{cell-room, cells-some, some-cell}
 use Rattle.filter.proofs.Records.{recorded-long, recorded-own, other-cell}
 use Rattle.filter.proofs.Lengths.{Counted, length-true, length-of, count-length, length-count}

@@ -10,9 +10,11 @@ use borrow.Author.Tests.{eq-eqb, ne-eqb}
 use lib.ListN.{length, getD, drop, getD-replicate, drop-of-length-le}
 use lib.Seq.{drop-cons, getD-take, getD-drop}
 use Rattle.wire.specs.Wire.{part}
+use Rattle.wire.specs.Below.{allBelow}
+use Rattle.wire.proofs.Below.{all-below, not-below}
 use Rattle.filter.specs.Filter.{hash, mixed, cell, same, empty, zeros}
-use Rattle.filter.specs.Triple.{width, isCell, allBelow}
-use Rattle.filter.proofs.Bytes.{part-long, zeros-long, all-below, none-below}
+use Rattle.filter.specs.Triple.{width, isCell}
+use Rattle.filter.proofs.Bytes.{part-long, zeros-long}
 
 -- the first i bytes of the key are in h
 pub record Hashing (salt : ℕ) (key : List ℕ) (h i : ℕ) : Type 0 where
@@ -109,7 +111,7 @@ module _ {f : List ℕ} {count k : ℕ} (r : Passed f count k) where
   passed-next h e = record { within = omega arith; each = below-more (λ j. isCell (cell width j f) ≡ true) k (r .each) e }
 
   pub passed-fails : k < count → isCell (cell width k f) ≡ false → false ≡ allBelow (λ j. isCell (cell width j f)) count
-  passed-fails h e = sym (none-below (λ j. isCell (cell width j f)) count k h e)
+  passed-fails h e = sym (not-below (λ j. isCell (cell width j f)) count k h e)
 
   pub passed-ends : count ≤ k → true ≡ allBelow (λ j. isCell (cell width j f)) count
   passed-ends h = sym (all-below (λ j. isCell (cell width j f)) count (λ j p. r .each j (omega arith)))

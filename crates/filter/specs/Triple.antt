@@ -1,13 +1,14 @@
 -- What is special to document 01's cells of ten bytes: the triple that is their key, and which filters are well-formed.
 -- `triple`, `Triple`, `Count`, `WellFormed` and `wellFormed` are the interface.
-use Prim.Native.Nat.{ℕ, zero, suc, _*_, _/_, _%_, _^_, _<_, _≤_}
+use Prim.Native.Nat.{ℕ, _*_, _^_, _<_, _≤_}
 use mathlib.Core.Path.{_≡_}
 use mathlib.Core.Logic.{_⊎_, _≢_}
-use mathlib.Core.Bool.{Bool, true, cond, _&&_, _||_}
+use mathlib.Core.Bool.{Bool, cond, _&&_, _||_}
 use mathlib.Core.List.{List, [], _∷_, _++_}
 use lib.ListN.{length, getD}
 use lib.Dec.{eqb, ltb}
 use Rattle.wire.specs.Address.{groupBit}
+use Rattle.wire.specs.Below.{allBelow}
 use Rattle.wire.specs.Wire.{bytesOf, number, part}
 use Rattle.filter.specs.Filter.{cells, cell, zeros, empty}
 
@@ -58,11 +59,6 @@ isCell c = cond (eqb (sourceIn c) 0) (empty c) (eqb (groupBit (sourceIn c)) 0 &&
 -- a length is that of 16, 32, 64, 128 or 256 cells
 unfoldable pub isLength : ℕ → Bool
 isLength n = eqb n (16 * width) || eqb n (32 * width) || eqb n (64 * width) || eqb n (128 * width) || eqb n (256 * width)
-
--- a test holds of every number below n
-unfoldable pub allBelow : (ℕ → Bool) → ℕ → Bool
-allBelow t zero = true
-allBelow t (suc n) = t n && allBelow t n
 
 -- a filter's length is lawful, and every cell fits
 unfoldable pub wellFormed : List ℕ → Bool

@@ -8,8 +8,9 @@ ghost use mathlib.Core.Path.{_≡_};
 ghost use Prim.Native.Nat.{_+_, _*_, _/_, _%_, _^_, _<_, _≤_};
 ghost use lib.ListN.{length};
 ghost use Rattle.wire.specs.Wire.{number, part};
+ghost use Rattle.wire.specs.Below.{allBelow};
 ghost use Rattle.filter.specs.Filter.{mixed, hash, cell, same, empty, holds, overwrites, recorded};
-ghost use Rattle.filter.specs.Triple.{width, triple, isCell, isLength, allBelow, wellFormed};
+ghost use Rattle.filter.specs.Triple.{width, triple, isCell, isLength, wellFormed};
 
 // A cell's bytes: six of the source, three of the nonce, one of L.
 pub const CELL: usize = 10;

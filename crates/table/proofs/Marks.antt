@@ -1,29 +1,18 @@
 -- The test of a table slot by slot. Every address passed has its mark set, so where an address finds its mark clear, no slot before has it.
 use mathlib.Core.Path.{_≡_, refl, sym, _∙_}
-use mathlib.Core.Bool.{Bool, true, false, _&&_}
+use mathlib.Core.Bool.{true, false}
 use mathlib.Core.List.{List, [], _∷_}
-use mathlib.Core.Logic.{⊎-elim}
 use Prim.Native.Nat.{ℕ, zero, suc, _+_, _≤_, _<_}
 use native.Mathlib.Numerals.{add-one}
-use native.Mathlib.Nat.{not-suc-le-zero, le-of-suc-le-suc, eq-or-lt-of-le}
 use native.Mathlib.Omega.{arith}
 use lib.ListN.{length, length-set, getD, set}
 use lib.Seq.{getD-set-same}
 use borrow.Author.Count.{below-none, below-more}
+use Rattle.wire.specs.Below.{allBelow}
+use Rattle.wire.proofs.Below.{not-below}
 use Rattle.table.specs.declared.Table.{Table}
-use Rattle.table.specs.Table.{Sized, addressAt, allBelow, markOf, marks, slotFits, slotOf, slots, wellFormed}
+use Rattle.table.specs.Table.{Sized, addressAt, markOf, marks, slotFits, slotOf, slots, wellFormed}
 use Rattle.table.proofs.Slots.{slot-first}
-
-module _ (f : ℕ → Bool) where
-  and-false : (b : Bool) → (b && false) ≡ false
-  and-false true = refl
-  and-false false = refl
-
-  all-fails : (n i : ℕ) → i < n → f i ≡ false → allBelow f n ≡ false
-  unfolding allBelow
-  all-fails zero i h e = absurd (not-suc-le-zero h)
-  all-fails (suc n) i h e =
-      ⊎-elim (λ (q : i ≡ n). rw (rw q at e)) (λ (l : i < n). rw (all-fails n i l e) (and-false (f n))) (eq-or-lt-of-le (le-of-suc-le-suc h))
 
 -- a mark stays where another is set
 stays : (s : List ℕ) (w v : ℕ) → getD s v 0 ≡ 1 → getD (set s w 1) v 0 ≡ 1
@@ -52,7 +41,7 @@ module _ {n : ℕ} {t : Table} {seen : List ℕ} {i : ℕ} (v : Passed n t seen 
   module _ (h : i < slots) where
     pub pass-fails : slotFits n t i ≡ false → false ≡ wellFormed n t
     unfolding wellFormed
-    pass-fails e = sym (all-fails (slotFits n t) slots i h e)
+    pass-fails e = sym (not-below (slotFits n t) slots i h e)
 
     -- where the code finds the mark
     module _ (m : ℕ) (q : m ≡ markOf (addressAt t i)) where
@@ -65,6 +54,6 @@ module _ {n : ℕ} {t : Table} {seen : List ℕ} {i : ℕ} (v : Passed n t seen 
       pass-next l e = record {
         within = omega arith;
         size = length-set seen m 1 ∙ v .size;
-        fit = rw (add-one, e) (v .fit);
+        fit = rw (add-one, v .fit) e;
         marked = below-more (λ (k : ℕ). getD (set seen m 1) (markOf (addressAt t k)) 0 ≡ 1) i (λ k j. stays seen m (markOf (addressAt t k)) (v .marked k j)) (rw (← q) (getD-set-same seen m 1 0 (omega (arith, v .size))));
       }

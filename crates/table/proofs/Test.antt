@@ -1,30 +1,18 @@
 -- The test of a table is true exactly where the table is well-formed.
 use mathlib.Core.Path.{_≡_, refl, sym, _∙_}
 use mathlib.Core.Logic.{_↔_, _≢_, inl, inr, ⊎-elim}
-use mathlib.Core.Bool.{Bool, true, false, cond, not, _&&_, and-eq-true-iff}
-use Prim.Native.Nat.{ℕ, zero, suc, _<_, _^_}
-use native.Mathlib.Nat.{not-suc-le-zero, le-of-suc-le-suc, eq-or-lt-of-le}
+use mathlib.Core.Bool.{Bool, true, false, cond, _&&_, and-eq-true-iff}
+use Prim.Native.Nat.{ℕ, _<_}
 use native.Mathlib.Omega.{arith}
 use lib.Dec.{eqb, ltb, leb}
-use borrow.Author.Tests.{eq-eqb, ne-eqb, lt-ltb, le-leb, eqb-true, eqb-false, ltb-true, leb-true, not-true}
+use borrow.Author.Tests.{eq-eqb, ne-eqb, lt-ltb, le-leb, eqb-true, ltb-true, leb-true}
 use Rattle.table.specs.declared.Table.{Table}
 use Rattle.wire.specs.Address.{isSource}
+use Rattle.wire.specs.Below.{allBelow}
 use Rattle.wire.proofs.Laws.{source-iff}
-use Rattle.table.specs.Table.{Empty, MayHold, Sized, Slot, WellFormed, addressAt, allBelow, hopsAt, mayHold, portAt, slotFits, slotOf, slots, wellFormed}
+use Rattle.wire.proofs.Below.{all-below, each-below}
+use Rattle.table.specs.Table.{Empty, MayHold, Sized, Slot, WellFormed, addressAt, hopsAt, mayHold, portAt, slotFits, slotOf, slots, wellFormed}
 use Rattle.table.proofs.WellFormed.{own-slot}
-
-module _ (f : ℕ → Bool) where
-  all-true : (n : ℕ) → allBelow f n ≡ true → (i : ℕ) → i < n → f i ≡ true
-  unfolding allBelow
-  all-true zero e i h = absurd (not-suc-le-zero h)
-  all-true (suc n) e i h =
-      let (a, b) = and-eq-true-iff (f n) (allBelow f n) .0 e in
-      ⊎-elim (λ (q : i ≡ n). rw q a) (λ (l : i < n). all-true n b i l) (eq-or-lt-of-le (le-of-suc-le-suc h))
-
-  true-all : (n : ℕ) → ((i : ℕ) → i < n → f i ≡ true) → allBelow f n ≡ true
-  unfolding allBelow
-  true-all zero h = refl
-  true-all (suc n) h = rw (h n (omega arith)) (true-all n (λ i l. h i (omega arith)))
 
 held-test : (n x p h : ℕ) → (mayHold n x p h ≡ true) ↔ MayHold n x p h
 unfolding mayHold
@@ -61,9 +49,9 @@ module _ (n : ℕ) (t : Table) (i : ℕ) where
 
 pub table-test : (n : ℕ) {t : Table} → Sized t → (wellFormed n t ≡ true) ↔ WellFormed n t
 unfolding wellFormed
-table-test n {t} z = (tested, λ w. true-all (slotFits n t) slots (λ i h. slot-passes n t i (w .slot i h) (own-slot w i h)))
+table-test n {t} z = (tested, λ w. all-below (slotFits n t) slots (λ i h. slot-passes n t i (w .slot i h) (own-slot w i h)))
   where
     tested : allBelow (slotFits n t) slots ≡ true → WellFormed n t
     tested e =
-        let each : (i : ℕ) → i < slots → Slot n t i × (addressAt t i ≢ 0 → slotOf (addressAt t i) (t .addresses) ≡ i) = (λ i h. slot-test n t i (all-true (slotFits n t) slots e i h)) in
+        let each : (i : ℕ) → i < slots → Slot n t i × (addressAt t i ≢ 0 → slotOf (addressAt t i) (t .addresses) ≡ i) = (λ i h. slot-test n t i (each-below (slotFits n t) slots e i h)) in
         record { sized = z; slot = λ i h. each i h .0; once = λ i j hi hj k q. sym (each i hi .1 k) ∙ rw q (each j hj .1 (λ d. k (q ∙ d))) }

@@ -1,14 +1,15 @@
 -- The learning table of document 01, "The head's switch". A slot is a place of three lists: an address, a port and a hop count. Clients cite what
 -- stands above "The tests", by the laws of proofs/Laws; the tests are what the code computes of `WellFormed`, and the laws say that they agree.
-use Prim.Native.Nat.{ℕ, zero, suc, _+_, _/_, _%_, _^_, _<_, _≤_}
+use Prim.Native.Nat.{ℕ, suc, _+_, _/_, _%_, _^_, _<_, _≤_}
 use mathlib.Core.Path.{_≡_}
 use mathlib.Core.Logic.{_⊎_, _≢_}
-use mathlib.Core.Bool.{Bool, true, false, cond, not, _&&_}
+use mathlib.Core.Bool.{Bool, true, false, cond, _&&_}
 use mathlib.Core.List.{List, [], _∷_}
 use lib.ListN.{drop, getD, set, replicate, length}
 use lib.Dec.{eqb, ltb, leb}
 use lib.Bits.{bitXor}
 use Rattle.wire.specs.Address.{Source, isSource}
+use Rattle.wire.specs.Below.{allBelow}
 use Rattle.table.specs.declared.Table.{Table}
 use Rattle.table.specs.declared.Entry.{Entry}
 use Rattle.table.specs.declared.Learned.{Learned}
@@ -170,11 +171,6 @@ unfoldable pub slotFits : ℕ → Table → ℕ → Bool
 slotFits n t i =
     cond (eqb (addressAt t i) 0) (eqb (portAt t i) 0 && eqb (hopsAt t i) 0)
     (mayHold n (addressAt t i) (portAt t i) (hopsAt t i) && eqb (slotOf (addressAt t i) (t .addresses)) i)
-
--- a test passes at every number below m
-unfoldable pub allBelow : (ℕ → Bool) → ℕ → Bool
-allBelow f zero = true
-allBelow f (suc m) = f m && allBelow f m
 
 -- every slot fits
 unfoldable pub wellFormed : ℕ → Table → Bool
