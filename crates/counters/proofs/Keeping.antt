@@ -1,5 +1,5 @@
 -- What holds in a run is kept by every event: a step places, loses and delivers at most 8 copies, and nothing is taken or cut that wasn't placed.
-use Prim.Native.Nat.{ℕ, _<_}
+use Prim.Native.Nat.{ℕ, _*_, _<_, _≤_}
 use mathlib.Core.Path.{_≡_, refl}
 use mathlib.Core.Bool.{Bool, true, false, cond}
 use mathlib.Core.Logic.{_≢_}
@@ -12,14 +12,23 @@ use Rattle.event.specs.declared.Event.the-variants.{Present, Take, Link}
 use Rattle.event.specs.Event.{addressOf}
 use Rattle.turn.specs.Turn.{noCopyAt, noHost, noLink, ownRefusal, toZero}
 use Rattle.bench.specs.Events.{eventOf}
-use Rattle.bench.specs.Shape.{Accepted}
+use Rattle.bench.specs.Shape.{Accepted, InShape, Sized}
 use Rattle.bench.proofs.Laws.{event-sized, keeps-shape, tested-both-ways}
-use Rattle.counters.specs.Counters.{adds, counted, plus}
+use Rattle.counters.specs.Counters.{CountersFit, adds, counted, plus}
 use Rattle.counters.specs.Event.{eventRefusal, mostEvents}
-use Rattle.counters.specs.History.{InRun, State}
+use Rattle.counters.specs.History.{State}
 use Rattle.counters.proofs.Answering.{balance, counts-one, few-sent, one-overwritten}
 use Rattle.counters.proofs.Fit.{fits}
 use Rattle.counters.proofs.Refusing.{in-shape-own, late}
+
+-- what holds in a run: bench and counters are in shape, and placed is at most 8 times accepted.
+-- Without the last an event needn't keep the rest: with accepted 1, cut 8, placed 520 and 512 copies in flight on one link the counters fit,
+-- and setting that link down makes cut 520, which is above 16. In a run each step places at most 8.
+pub record InRun (s : State) : Type 0 where
+  pub shape : InShape (s .bench)
+  pub sized : Sized (s .bench)
+  pub fit : CountersFit (s .bench .flying) (s .counters)
+  pub placed : s .counters .placed ≤ 8 * s .counters .accepted
 
 -- an event's own refusals are 30 to 33
 own-not-28 : (n : Network) (flying : ℕ) (e : Event) → ownRefusal n flying e ≢ 28

@@ -13,15 +13,16 @@ use Rattle.turn.specs.Turn.{ownRefusal}
 use Rattle.bench.specs.Bench.{freshBench}
 use Rattle.bench.specs.Events.{eventOf}
 use Rattle.bench.proofs.Laws.{each-is-the-step, fresh-in-shape, fresh-sized}
-use Rattle.counters.specs.Counters.{CountersFit, countersFit, plus}
+use Rattle.counters.specs.Counters.{CountersFit, countersFit}
 use Rattle.counters.specs.Event.{eventRefusal, happensOf, mostEvents}
-use Rattle.counters.specs.History.{CountersByHistory, EveryStepIsTrue, InRun, PlacedIsAccountedFor, Reachable, State, StaysInShape, after, freshState, runOf}
+use Rattle.counters.specs.History.{CountersByHistory, EveryStepIsTrue, PlacedIsAccountedFor, Reachable, State, StaysInShape, after, freshState, runOf}
 use Rattle.counters.specs.declared.Counters.{Counters}
 use Rattle.counters.proofs.Adding.{none-plus}
 use Rattle.counters.proofs.Answering.{at-most-one, in-flight-long}
 use Rattle.counters.proofs.Fit.{fits, found-fit}
 use Rattle.counters.proofs.Histories.{after-cases, run-adds}
 use Rattle.counters.proofs.Keeping.{accepted, keeps, never-28, own-only}
+pub use Rattle.counters.proofs.Keeping.{InRun}
 
 -- ---- Counters and the public event
 

@@ -1,5 +1,5 @@
 -- Runs from a fresh bench, their history, and what the counters are by it. Each statement is a type; proofs/Laws has its term, under the same name in lower case.
-use Prim.Native.Nat.{ℕ, _+_, _*_, _≤_}
+use Prim.Native.Nat.{ℕ, _+_}
 use mathlib.Core.Path.{_≡_}
 use mathlib.Core.Logic.{_≢_}
 use mathlib.Core.List.{List, [], _∷_}
@@ -10,7 +10,7 @@ use Rattle.event.specs.declared.Event.{Event}
 use Rattle.turn.specs.declared.Answer.{Answer}
 use Rattle.bench.specs.declared.Bench.{Bench}
 use Rattle.bench.specs.Bench.{freshBench, inFlight}
-use Rattle.bench.specs.Shape.{InShape, Sized}
+use Rattle.bench.specs.Shape.{InShape}
 use Rattle.bench.specs.Kept.{Truly}
 use Rattle.counters.specs.Counters.{CountersFit, acceptedBy, cutBy, deliveredBy, lostBy, noCounts, overwrittenBy, placedBy, takenBy}
 use Rattle.counters.specs.Event.{eventRefusal, happensOf}
@@ -79,15 +79,6 @@ countersBy h =
     }
 
 -- ---- What holds in every run from a fresh bench
-
--- bench and counters are in shape, and placed is at most 8 times accepted.
--- Without the last an event needn't keep the rest: with accepted 1, cut 8, placed 520 and 512 copies in flight on one link the counters fit,
--- and setting that link down makes cut 520, which is above 16. In a run each step places at most 8.
-pub record InRun (s : State) : Type 0 where
-  pub shape : InShape (s .bench)
-  pub sized : Sized (s .bench)
-  pub fit : CountersFit (s .bench .flying) (s .counters)
-  pub placed : s .counters .placed ≤ 8 * s .counters .accepted
 
 -- the counters are what the history says
 abbrev pub CountersByHistory : Type 0

@@ -5,7 +5,7 @@ use mathlib.Core.Bool.{false, cond}
 use mathlib.Core.List.{List, [], _∷_, _++_, map, List·Memᴰ}
 use lib.Dec.{eqb}
 use lib.ListN.{getD, set, take, drop, length, replicate}
-use Rattle.frame.specs.Header.{bit}
+use Rattle.frame.specs.Header.{bit, noHeader}
 use Rattle.flight.specs.declared.Copy.{Copy}
 
 -- how many copies may be in flight
@@ -14,7 +14,7 @@ most = 512
 
 -- an empty place: all zeros
 abbrev pub noCopy : Copy
-noCopy = record { link = 0; second = false; source = 0; destination = 0; header = record { l = false; f = false; hc = 0; nonce = 0 } }
+noCopy = record { link = 0; second = false; source = 0; destination = 0; header = noHeader }
 
 -- its words
 abbrev pub noWords : List ℕ

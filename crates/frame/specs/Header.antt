@@ -1,5 +1,5 @@
 -- Document 01, "Tagged frames": the four header bytes.
--- `headerBytes`, `headerOf`, `headerValues` and `tooLarge` are the interface; `bit` and `byte0` serve them.
+-- `headerBytes`, `headerOf`, `noHeader`, `headerValues` and `tooLarge` are the interface; `bit` and `byte0` serve them.
 use Prim.Native.Nat.{ℕ, _+_, _*_, _/_, _%_, _^_}
 use mathlib.Core.Bool.{Bool, true, false, _||_}
 use mathlib.Core.List.{List, [], _∷_}
@@ -29,6 +29,10 @@ headerOf b =
       hc = getD b 0 0 % 2 ^ 6;
       nonce = number (part 1 3 b);
     }
+
+-- no header: all of it 0
+abbrev pub noHeader : Header
+noHeader = record { l = false; f = false; hc = 0; nonce = 0 }
 
 -- L, F, HC and the nonce as numbers
 abbrev pub headerValues : Header → List ℕ

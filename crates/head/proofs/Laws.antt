@@ -16,7 +16,7 @@ use Rattle.frame.specs.Frame.{headerIn, sourceOf}
 use Rattle.frame.specs.RoundTrip.{GivesBack}
 use Rattle.head.specs.Switch.{WellFormed, switchCauses}
 use Rattle.rules.specs.Rules.{hopHeader, hostHeader, onHostPort, rule1, rules}
-use Rattle.head.specs.Step.{hostFrame, outgoing, refusal, refusalBut1, ruled, switchAfter, toldAnswer}
+use Rattle.head.specs.Step.{outgoing, refusal, refusalBut1, ruled, switchAfter, toldAnswer}
 use Rattle.rules.specs.Verdict.{sendingOf}
 use Rattle.rules.proofs.Laws.{filter-formed, nonce-small, sent-fairly, table-formed}
 use Rattle.head.specs.declared.Switch.{Switch}
@@ -88,7 +88,7 @@ module _ {sw : Switch} {f : List ℕ} (formed : WellFormed sw f) where
 
     -- stripping accepts what a step sends, and gives the outgoing header and the host frame that came in
     pub sent-strips : AreBytes frame → (c : Send) → sendingOf (ruled sw f port frame .report .verdict) ≡ Copies c
-        → GivesBack (outgoing (onHostPort (sw .setup) port) frame (c .header)) (hostFrame (onHostPort (sw .setup) port) frame) (c .header)
+        → GivesBack (outgoing (onHostPort (sw .setup) port) frame (c .header)) (outputs.hostFrame (onHostPort (sw .setup) port) frame) (c .header)
     sent-strips bytes c e =
         let a : Arrival = rule1 (sw .setup) (sw .nonce) (sw .table) port frame in
         let arrives = rule1-arrives sw port frame room none in

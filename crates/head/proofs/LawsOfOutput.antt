@@ -1,6 +1,6 @@
 -- What a sending verdict writes can be stripped: the frame was taggable but for its header, and the outgoing header fits.
 use mathlib.Core.Path.{_≡_}
-use mathlib.Core.Bool.{Bool, true, false}
+use mathlib.Core.Bool.{Bool, true, false, cond}
 use mathlib.Core.List.{List}
 use Prim.Native.Nat.{ℕ, _+_, _^_, _≤_, _<_}
 use native.Mathlib.Omega.{arith}
@@ -14,12 +14,16 @@ use Rattle.frame.specs.Frame.{headerIn, ourType, stripped, tagged, typeOf}
 use Rattle.frame.specs.RoundTrip.{GivesBack, StripsWhatWasTagged, TagsWhatWasStripped}
 use Rattle.frame.proofs.Laws.{Taggable, strip-accepts, tag-accepts, taggable}
 use Rattle.frame.proofs.RoundTrip.{strips-what-was-tagged, tags-what-was-stripped}
-use Rattle.head.specs.Step.{badLength, hostFrame, lacksTag, noHops, outgoing, refusalBut1, tagInside}
+use Rattle.head.specs.Step.{badLength, lacksTag, noHops, outgoing, refusalBut1, tagInside}
 use Rattle.rules.specs.Rules.{onHostPort, rule1}
 use Rattle.rules.specs.declared.Setup.{Setup}
 use Rattle.head.specs.declared.Switch.{Switch}
 use Rattle.rules.proofs.Ways.{by-test}
 use Rattle.head.proofs.Refusals.{passed}
+
+-- the host frame that came in: on a switch port it has a tag
+abbrev pub hostFrame : Bool → List ℕ → List ℕ
+hostFrame host frame = cond host frame (stripped frame)
 
 -- a header that tagging takes
 pub record Fits (h : Header) : Type 0 where

@@ -1,6 +1,6 @@
 -- Document 01, "One step": its refusals, and what it leaves of switch, filter and output. `room` is the output's length.
 use Prim.Native.Nat.{ℕ, _+_, _-_, _≤_}
-use mathlib.Core.Bool.{Bool, true, false, cond, not, _&&_}
+use mathlib.Core.Bool.{Bool, cond, not, _&&_}
 use mathlib.Core.Path.{_≡_}
 use mathlib.Core.List.{List, [], _∷_, _++_}
 use lib.Dec.{eqb, ltb, leb}
@@ -16,7 +16,6 @@ use Rattle.rules.specs.Verdict.{reportValues, sendingOf}
 use Rattle.rules.specs.Rules.{onHostPort, rule1, nonceOn, Ruled, rules}
 use Rattle.rules.specs.declared.Setup.{Setup}
 use Rattle.head.specs.declared.Switch.{Switch}
-use Rattle.rules.specs.declared.Report.{Report}
 use Rattle.head.specs.declared.Answer.{Answer}
 use Rattle.head.specs.declared.Answer.the-variants.{Refused, Done}
 use Rattle.rules.specs.declared.Sending.{Sending}
@@ -114,7 +113,7 @@ pub record Steps (n : ℕ) (s : Switch) (f : List ℕ) (port : ℕ) (frame out :
   pub filter : f′ ≡ leaves n f (ruled s f port frame .filter)
   pub output : out′ ≡ leaves n out (written (onHostPort (s .setup) port) frame (sendingOf (ruled s f port frame .report .verdict)) out)
 
--- ---- Words of the code that writes, and of the laws
+-- ---- Words of the code that writes
 
 -- the place from which a frame stands behind its tag: a host's frame has none yet
 abbrev pub behindTag : Bool → ℕ
@@ -124,7 +123,3 @@ behindTag host = cond host 12 18
 pub record HasRoom (host : Bool) (n room : ℕ) : Type 0 where
   pub long-enough : behindTag host ≤ n
   pub fits : 18 + (n - behindTag host) ≤ room
-
--- the host frame that came in: on a switch port it has a tag
-abbrev pub hostFrame : Bool → List ℕ → List ℕ
-hostFrame host frame = cond host frame (stripped frame)

@@ -21,8 +21,8 @@ use Rattle.seat.specs.declared.Seat.{Seat}
 use Rattle.event.specs.declared.Event.{Event}
 use Rattle.event.specs.declared.Event.the-variants.{Take}
 use Rattle.bench.proofs.Laws.{fresh-seat}
-use Rattle.counters.specs.History.{InRun, State, after, freshState, happensAt, historyOf, runOf}
-use Rattle.counters.proofs.Laws.{event-in-run, fresh-in-run}
+use Rattle.counters.specs.History.{State, after, freshState, happensAt, historyOf, runOf}
+use Rattle.counters.proofs.Laws.{InRun, event-in-run, fresh-in-run}
 use Rattle.table.specs.Table as table
 use Rattle.filter.specs.Filter as filter
 use Rattle.wire.specs.Wire as wire

@@ -42,8 +42,8 @@ use Rattle.bench.specs.Kept.{Unchanged}
 use Rattle.bench.specs.Shape.{Accepted, InShape, Sized}
 use Rattle.bench.proofs.Laws.{already-so, fresh-seat}
 use Rattle.counters.specs.Event.{eventRefusal}
-use Rattle.counters.specs.History.{InRun, Reachable, State, after, freshState, happensAt, runOf}
-use Rattle.counters.proofs.Laws.{event-in-run, fresh-in-run, reachable-in-run}
+use Rattle.counters.specs.History.{Reachable, State, after, freshState, happensAt, runOf}
+use Rattle.counters.proofs.Laws.{InRun, event-in-run, fresh-in-run, reachable-in-run}
 use Rattle.plug_in.proofs.Happening.{Sets, Steps, accepted-answer, accepted-bench, accepted-own, linked, presented, refused-bench, step-new, taken}
 use Rattle.plug_in.proofs.Sent.{WentOut}
 use Rattle.plug_in.proofs.Stand.{IsHosts, host-stands}

@@ -18,8 +18,8 @@ use Rattle.bench.specs.declared.Bench.{Bench}
 use Rattle.bench.specs.Events.{eventOf}
 use Rattle.counters.specs.Counters.{counted}
 use Rattle.counters.specs.Event.{eventRefusal, happensBy, happensOf, mostEvents}
-use Rattle.counters.specs.History.{InRun, Moment, State, after, historyOf, runOf}
-use Rattle.counters.proofs.Laws.{event-accepted-in-run, event-in-run}
+use Rattle.counters.specs.History.{Moment, State, after, historyOf, runOf}
+use Rattle.counters.proofs.Laws.{InRun, event-accepted-in-run, event-in-run}
 use Rattle.plug_in.specs.Demand.{AllProvided}
 use Rattle.plug_in.specs.Words.{KeepsRecord, LosesNone, OfOthers, holdsAt}
 use Rattle.plug_in.proofs.Happening.{accepted-answer, accepted-bench}

@@ -18,10 +18,9 @@ use Rattle.table.specs.Table.{entryOf, lookupOf}
 use Rattle.flight.specs.declared.Copy.{Copy}
 use Rattle.event.specs.declared.Event.{Event}
 use Rattle.event.specs.declared.Event.the-variants.{Link, Take}
-use Rattle.event.specs.declared.Address.{Address}
 use Rattle.bench.specs.declared.Bench.{Bench}
-use Rattle.counters.specs.History.{InRun, State, freshState, historyOf, runOf}
-use Rattle.counters.proofs.Laws.{fresh-in-run, run-in-run}
+use Rattle.counters.specs.History.{State, freshState, historyOf, runOf}
+use Rattle.counters.proofs.Laws.{InRun, fresh-in-run, run-in-run}
 use Rattle.table.specs.Table as table
 use Rattle.filter.specs.Filter as filter
 use Rattle.wire.specs.Wire as wire

@@ -35,7 +35,8 @@ use Rattle.rules.specs.declared.Sending.the-variants.{Nothing, Copies}
 use Rattle.rules.specs.declared.Verdict.the-variants.{X, D, F, N, B}
 use Rattle.rules.proofs.Bits.{names-below, names-none}
 use Rattle.rules.proofs.Cases.{and-false}
-use Rattle.rules.specs.Words.{Arrives, Because, Fair, FairBy, Floods, RecordsOnce, ending, heard, noted, replaces}
+use Rattle.rules.specs.Words.{Arrives, Fair, Floods, heard}
+use Rattle.rules.proofs.Words.{Because, FairBy, RecordsOnce, ending, noted, replaces}
 use Rattle.rules.proofs.Ways as ways
 use Rattle.rules.proofs.Ways.{by-test, way}
 use Rattle.rules.proofs.LawsOfMask as masks

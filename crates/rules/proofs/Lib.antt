@@ -5,3 +5,4 @@ pub mod Laws
 mod LawsOfMask
 mod LawsOfTable
 pub mod Ways
+pub mod Words

@@ -16,7 +16,8 @@ use Rattle.frame.specs.declared.Header.{Header}
 use Rattle.rules.proofs.Cases.{forwarding-flood, forwarding-onward}
 use Rattle.rules.proofs.LawsOfMask.{all-but-within, only-within}
 use Rattle.rules.specs.Verdict.{sendingOf}
-use Rattle.rules.specs.Words.{Because, Fair, FairBy, Floods, Directed, RecordsOnce, ending, heard, noted, replaces}
+use Rattle.rules.specs.Words.{Fair, Floods, heard}
+use Rattle.rules.proofs.Words.{Because, FairBy, Directed, RecordsOnce, ending, noted, replaces}
 use Rattle.rules.specs.Mask.{names, only}
 use Rattle.rules.specs.Rules.{After, Ruled, erases, flagged, flood, forwarding, fromLearning, ifUp, isDuplicate, learning, learns, onward, onwardBy, overwrote3, reading, reported, rule10, rule11, rule2, rule3, rule5, rule6, rule9, rules, sends, standing, tooOld}
 use Rattle.rules.specs.declared.Setup.{Setup}

@@ -1,9 +1,7 @@
 -- The paper's letter and values of each verdict: mask and header are 0 after a drop.
 use Prim.Native.Nat.{ℕ}
-use mathlib.Core.Bool.{false}
 use mathlib.Core.List.{List, _∷_}
-use Rattle.frame.specs.declared.Header.{Header}
-use Rattle.frame.specs.Header.{bit, headerValues}
+use Rattle.frame.specs.Header.{bit, headerValues, noHeader}
 use Rattle.rules.specs.declared.Send.{Send}
 use Rattle.rules.specs.declared.Report.{Report}
 use Rattle.rules.specs.declared.Sending.{Sending}
@@ -34,10 +32,6 @@ letterOf (N s) = 0x4E
 letterOf (B s) = 0x42
 letterOf (H s) = 0x48
 letterOf (U s) = 0x55
-
--- no header: all of it 0
-abbrev pub noHeader : Header
-noHeader = record { l = false; f = false; hc = 0; nonce = 0 }
 
 -- the mask and the header of what is sent
 abbrev pub sentBy : Sending → Send

@@ -33,8 +33,8 @@ use Rattle.bench.specs.declared.Happened.{Happened}
 use Rattle.bench.specs.Bench.{allUp, noSeat}
 use Rattle.counters.specs.declared.Counters.{Counters}
 use Rattle.counters.specs.Counters.{noCounts}
-use Rattle.counters.specs.History.{InRun, State, after, freshState, happensAt, runOf}
-use Rattle.counters.proofs.Laws.{event-accepted-in-run, event-in-run, fresh-in-run, run-accepts}
+use Rattle.counters.specs.History.{State, after, freshState, happensAt, runOf}
+use Rattle.counters.proofs.Laws.{InRun, event-accepted-in-run, event-in-run, fresh-in-run, run-accepts}
 use Rattle.transcript.specs.Transcript.{lineAt, lineFor, linesFrom, linesIn}
 use Rattle.transcript.specs.Running.{Arrays, CanAct, CanRun, Ran, actOf, concerned}
 use Rattle.transcript.proofs.Parts.{Held, held-fresh, zeroArrays}
