@@ -1,29 +1,15 @@
--- The reader and the writer refuse for their listed causes only, and their contracts have one outcome: the answer, and the network or the output.
+-- The contracts of the reader and the writer have one outcome: the answer, and the network or the output.
 use Prim.Native.Nat.{ℕ}
 use mathlib.Core.Path.{_≡_}
 use mathlib.Core.List.{List, [], _∷_}
 use lib.ListN.{length}
 use Rattle.refusal.specs.Refusal.{answered}
 use Rattle.refusal.specs.OneOutcome.{OneOutcome}
-use Rattle.refusal.proofs.Laws.{for-its-cause-only}
 use Rattle.refusal.proofs.Outcomes.{one-outcome, beside}
 use Rattle.network.specs.declared.Answer.{Answer}
 use Rattle.network.specs.declared.Network.{Network}
-use Rattle.network.specs.Checks.{RecordsForItsCauseOnly, causes, recordFault}
-use Rattle.network.specs.Describe.{ReadsForItsCauseOnly, WritesForItsCauseOnly, image, readCauses, readEnd, readFault, readNetwork, told, writeCauses, writeFault, written}
+use Rattle.network.specs.Describe.{image, readEnd, readFault, readNetwork, told, writeFault, written}
 use Rattle.network.proofs.Laws.{told-apart}
-
-pub records-for-its-cause-only : RecordsForItsCauseOnly
-unfolding recordFault
-records-for-its-cause-only n r = for-its-cause-only (causes n r)
-
-pub reads-for-its-cause-only : ReadsForItsCauseOnly
-unfolding readFault
-reads-for-its-cause-only b = for-its-cause-only (readCauses b)
-
-pub writes-for-its-cause-only : WritesForItsCauseOnly
-unfolding writeFault
-writes-for-its-cause-only n room = for-its-cause-only (writeCauses n room)
 
 pub read-has-one-outcome : (b : List ℕ) → OneOutcome (λ (o : Answer × Network). (told (o .0) ≡ answered (readFault b) (readEnd b ∷ [])) × (o .1 ≡ readNetwork b))
 read-has-one-outcome b = one-outcome (beside told-apart) (λ o p i. (p .0 i, p .1 i))

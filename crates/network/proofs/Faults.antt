@@ -7,6 +7,7 @@ use native.Mathlib.Omega.{arith}
 use lib.Dec.{eqb}
 use borrow.Author.Tests.{eq-eqb, ne-eqb, eqb-true, eqb-false, leb-false}
 use Rattle.refusal.specs.Refusal.{first, answered}
+use Rattle.refusal.specs.Exact.{Numbered}
 use Rattle.refusal.proofs.Laws.{for-its-cause-only}
 use Rattle.network.specs.declared.Switch.{Switch}
 use Rattle.network.specs.declared.Host.{Host}
@@ -27,10 +28,14 @@ pub record Passes (n : Network) (r : Record) : Type 0 where
   pub free : portTaken n r ≡ false
   pub address : badAddress n r ≡ false
 
+-- none of its causes has the number 0
+pub numbered : (n : Network) (r : Record) → Numbered (causes n r)
+numbered n r = ((λ z. omega arith), ((λ z. omega arith), ((λ z. omega arith), ((λ z. omega arith), ((λ z. omega arith), tt)))))
+
 pub passes : (n : Network) (r : Record) → recordFault n r ≡ 0 → Passes n r
 unfolding recordFault
 passes n r e =
-    let none = for-its-cause-only (causes n r) .only-then ((λ z. omega arith), ((λ z. omega arith), ((λ z. omega arith), ((λ z. omega arith), ((λ z. omega arith), tt))))) e in
+    let none = for-its-cause-only (causes n r) .only-then (numbered n r) e in
     record { room = none .0; order = none .1 .0; range = none .1 .1 .0; free = none .1 .1 .1 .0; address = none .1 .1 .1 .1 .0 }
 
 -- there is a place for it

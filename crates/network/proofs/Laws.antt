@@ -1,8 +1,8 @@
--- What callers cite: the answers told apart, ports in order, the accepted networks and their lists; the round trips of proofs/Trip and the soundness of
+-- What callers cite: the answers told apart, the accepted networks and their lists; the round trips of proofs/Trip and the soundness of
 -- proofs/Soundness are passed on.
 use Prim.Native.Nat.{ℕ, zero, suc, suc-le-suc, _<_, _≤_}
 use mathlib.Core.Path.{_≡_, ap}
-use mathlib.Core.Logic.{_⊎_, inl, inr, ⊎-elim, by-cases}
+use mathlib.Core.Logic.{by-cases}
 use mathlib.Core.List.{List, [], _∷_, _++_, map}
 use native.Mathlib.Nat.{mod-lt}
 use native.Mathlib.Decide.{ℕ-discrete}
@@ -21,7 +21,7 @@ use Rattle.network.specs.declared.Record.the-variants.{Switch as OfSwitc
 use Rattle.network.specs.declared.Answer.the-variants.{Refused, Ends}
 use Rattle.network.specs.Network.{noSwitch, noHost, noLink, limitOf, switchesOf, hostsOf, linksOf, records}
 use Rattle.network.specs.Format.{kindOf, bodyOf, portBytes, encode}
-use Rattle.network.specs.Checks.{place, networkFault}
+use Rattle.network.specs.Checks.{networkFault}
 use Rattle.network.specs.Describe.{told, encodeAll, image}
 use Rattle.network.specs.RoundTrip.{SameNetworks, ToldApart}
 use Rattle.network.specs.Sound.{FineSwitch, Standing, Sound}
@@ -57,17 +57,6 @@ link-is n i h = upTo-at noLink (n .nlinks) (n .links) i h
 pub limit-range : (s : Switch) → FineSwitch s → (1 ≤ limitOf s) × (limitOf s ≤ 62)
 unfolding limitOf
 limit-range s v = by-cases (ℕ-discrete (s .limit) 0) (λ e. rw (eq-eqb (s .limit) 0 e) (omega arith)) (λ e. rw (ne-eqb (s .limit) 0 e) (omega arith))
-
--- ports order by switch, then by port
-module _ (p q : Port) (a : p .number < 256) (b : q .number < 256) where
-  pub place-below : place p < place q → (p .switch < q .switch) ⊎ ((p .switch ≡ q .switch) × (p .number < q .number))
-  place-below h = by-cases (ℕ-discrete (p .switch) (q .switch)) (λ e. inr (e, omega arith)) (λ e. inl (omega arith))
-
-  pub below-place : (p .switch < q .switch) ⊎ ((p .switch ≡ q .switch) × (p .number < q .number)) → place p < place q
-  below-place = ⊎-elim (λ h. omega arith) (λ h. omega arith)
-
-  pub place-same : place p ≡ place q → (p .switch ≡ q .switch) × (p .number ≡ q .number)
-  place-same e = (omega arith, omega arith)
 
 -- what the writer writes is bytes
 bytes-append : (xs ys : List ℕ) → AreBytes xs → AreBytes ys → AreBytes (xs ++ ys)

@@ -1,5 +1,6 @@
 pub mod Laws
 pub mod Doors
+pub mod Causes
 pub mod Trip
 mod Lists
 mod Bytes

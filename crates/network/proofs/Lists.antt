@@ -2,7 +2,7 @@
 use Prim.Native.Nat.{ℕ, zero, suc, _+_, _<_, _≤_}
 use mathlib.Core.Path.{_≡_, refl, sym, ap, _∙_}
 use mathlib.Core.Bool.{Bool, true, false, _||_}
-use mathlib.Core.List.{List, [], _∷_, _++_}
+use mathlib.Core.List.{List, [], _∷_, _++_, List·Memᴰ, List·Memᴰ·head, List·Memᴰ·tail}
 use native.Mathlib.Nat.{le-of-suc-le-suc, not-suc-le-zero}
 use native.Mathlib.Numerals.{add-one}
 use native.Mathlib.Omega.{arith}
@@ -57,6 +57,12 @@ module _ {A : Type 0} (unused : A) where
   pub upTo-set : (k : ℕ) (xs : List A) (x : A) → k < length xs → upTo unused (k + 1) (set xs k x) ≡ upTo unused k xs ++ (x ∷ [])
   upTo-set k xs x h =
       rw (upTo-take (k + 1) (set xs k x) (rw (length-set xs k x) (omega arith)), upTo-take k xs (omega arith), add-one) (take-suc-set xs k x h)
+
+  -- element k is one of the list
+  pub at-member : (k : ℕ) (xs : List A) → k < length xs → List·Memᴰ (getD xs k unused) xs
+  at-member k [] h = absurd (not-suc-le-zero h)
+  at-member zero (x ∷ xs) h = List·Memᴰ·head refl
+  at-member (suc k) (x ∷ xs) h = List·Memᴰ·tail (at-member k xs (le-of-suc-le-suc h))
 
   -- of unused elements, one answers for all
   any-unused : (test : A → Bool) (k : ℕ) → (test unused || any test (upTo unused k [])) ≡ test unused

@@ -58,7 +58,7 @@ module _ (b : List ℕ) where
     reading-starts version e =
         record {
           within = some version;
-          turns = length b;
+          turns = suc (length b);
           enough = omega arith;
           fault = rw (le-ltb 60000 (length b) fits, version, e);
           end = refl;

@@ -1,16 +1,16 @@
 -- An accepted network is sound: each record that passes its checks keeps the network of those before it so.
-use Prim.Native.Nat.{ℕ, zero, suc, _<_, _^_, _≤_}
+use Prim.Native.Nat.{ℕ, zero, suc, _/_, _<_, _^_, _≤_}
 use mathlib.Core.Path.{_≡_, refl, sym, ap, _∙_}
 use mathlib.Core.Logic.{⊎-elim, by-cases, _≢_}
-use mathlib.Core.Bool.{Bool, true, false, not, _||_, _&&_, true≢false}
+use mathlib.Core.Bool.{Bool, false, not, _||_}
 use mathlib.Core.List.{List, [], _∷_, _++_}
-use native.Mathlib.Nat.{le-of-suc-le-suc, not-suc-le-zero}
+use native.Mathlib.Nat.{le-of-suc-le-suc, mod-lt, not-suc-le-zero}
 use native.Mathlib.Omega.{arith}
 use lib.ListN.{length, getD, length-append, List·getD-append}
 use lib.Seq.{getD-append-seam}
 use native.Mathlib.Decide.{ℕ-discrete}
-use lib.Dec.{eqb, ltb, leb}
-use borrow.Author.Tests.{leb-false, ltb-false, ltb-true, eqb-false, not-false}
+use lib.Dec.{eqb, leb}
+use borrow.Author.Tests.{leb-false, eqb-false, not-false}
 use Rattle.network.specs.declared.Port.{Port}
 use Rattle.network.specs.declared.Switch.{Switch}
 use Rattle.network.specs.declared.Host.{Host}
@@ -20,10 +20,11 @@ use Rattle.network.specs.declared.Record.{Record}
 use Rattle.network.specs.declared.Record.the-variants.{Switch as OfSwitch, Host as OfHost, Link as OfLink}
 use Rattle.network.specs.Network.{mostSwitches, mostHosts, mostLinks, noSwitch, noHost, noLink, emptyNetwork, upTo, switchesOf, hostsOf, linksOf, records, add, built}
 use Rattle.wire.specs.Address.{groupBit}
-use Rattle.network.specs.Checks.{any, place, hostOn, linkOn, hasAddress, taken, stands, switchOut, outOfOrder, outOfRange, portTaken, addressOut, badAddress, recordFault, recordsFault, networkFault}
-use Rattle.network.specs.Sound.{FineSwitch, Standing, FineHost, FineLink, EndsOn, SoundOf, Sound, AcceptedIsSound}
-use Rattle.network.proofs.Lists.{upTo-long, upTo-at, upTo-set}
+use Rattle.network.specs.Checks.{any, place, hostOn, linkOn, hasAddress, taken, stands, outOfOrder, outOfRange, portTaken, addressOut, badAddress, recordFault, recordsFault, networkFault}
+use Rattle.network.specs.Sound.{FineSwitch, FineHost, FineLink, EndsOn, SoundOf, Sound, AcceptedIsSound}
+use Rattle.network.proofs.Lists.{upTo-set}
 use Rattle.network.proofs.Bytes.{neither}
+use Rattle.network.proofs.Causes.{standing-words, switch-fine}
 use Rattle.network.proofs.Faults.{Passes, passes, switch-room, host-room, link-room, none-here, none-behind}
 use Rattle.network.proofs.Built.{built-cleared, cleared-switches, cleared-hosts, cleared-links, Shaped, shaped-empty, shaped-add, switch-first, host-second, switches-long, hosts-long, links-long}
 
@@ -120,33 +121,6 @@ module _ {ss : List Switch} where
 
 -- what the tests say
 module _ (n : Network) where
-  fine-switch : (s : Switch) → switchOut s ≡ false → FineSwitch s
-  unfolding switchOut
-  fine-switch s e =
-      let limit = neither _ (ltb 62 (s .limit)) e in
-      let most = neither _ (ltb 8 (s .ports)) (limit .0) in
-      let least = neither (leb (2 ^ 32) (s .salt)) (ltb (s .ports) 1) (most .0) in
-      record {
-        least = ltb-false (s .ports) 1 (least .1);
-        most = ltb-false 8 (s .ports) (most .1);
-        limit = ltb-false 62 (s .limit) (limit .1);
-        salt = leb-false (2 ^ 32) (s .salt) (least .0);
-      }
-
-  standing : (p : Port) → stands n p ≡ true → Standing (switchesOf n) p
-  unfolding stands switchesOf
-  standing p e =
-      let v = both (ltb (p .switch) (n .nswitches)) (ltb (p .number) (getD (n .switches) (p .switch) noSwitch .ports)) e in
-      let here : p .switch < n .nswitches = ltb-true _ _ (v .0) in
-      record {
-        switch = rw (upTo-long noSwitch (n .nswitches) (n .switches)) here;
-        number = rw (upTo-at noSwitch (n .nswitches) (n .switches) (p .switch) here) (ltb-true _ _ (v .1));
-      }
-    where
-      both : (a b : Bool) → a && b ≡ true → (a ≡ true) × (b ≡ true)
-      both true b h = (refl, h)
-      both false b h = absurd (true≢false (sym h))
-
   -- a port that isn't taken has no host's cable and no link's end
   module _ (p : Port) (free : taken n p ≡ false) where
     no-host : (i : ℕ) → i < length (hostsOf n) → getD (hostsOf n) i noHost .port ≡ p → ⊥
@@ -169,9 +143,12 @@ module _ (n : Network) where
       let out = neither _ (any (hasAddress (h .address)) (hostsOf n)) (v .address) in
       let plain = neither (eqb (h .address) 0) (eqb (groupBit (h .address)) 1) (out .0) in
       record {
-        port = standing (h .port) (not-false _ (range .0));
-        address = record { nonzero = eqb-false _ _ (plain .0); below = leb-false _ _ (range .1); single = eqb-false _ _ (plain .1) };
+        port = standing-words n (h .port) .0 (not-false _ (range .0));
+        address = record { nonzero = eqb-false _ _ (plain .0); below = leb-false _ _ (range .1); single = clear (h .address) (eqb-false _ _ (plain .1)) };
       }
+    where
+      clear : (x : ℕ) → groupBit x ≢ 1 → groupBit x ≡ 0
+      clear x d = let small : groupBit x < 2 = mod-lt (x / 2 ^ 40) (omega arith) in omega arith
 
   new-address : (h : Host) → Passes n (OfHost h) → (i : ℕ) → i < length (hostsOf n) → getD (hostsOf n) i noHost .address ≡ h .address → ⊥
   unfolding badAddress addressOut
@@ -185,8 +162,8 @@ module _ (n : Network) where
       let range = neither (not (stands n (l .first))) (not (stands n (l .second))) (v .range) in
       let below : place (l .first) < place (l .second) = leb-false _ _ (neither (leb (place (l .second)) (place (l .first))) _ (v .order) .0) in
       record {
-        first = standing (l .first) (not-false _ (range .0));
-        second = standing (l .second) (not-false _ (range .1));
+        first = standing-words n (l .first) .0 (not-false _ (range .0));
+        second = standing-words n (l .second) .0 (not-false _ (range .1));
         two = λ e. differ (place (l .first)) (place (l .second)) below (ap place e);
       }
     where
@@ -232,7 +209,7 @@ sound-add n (OfSwitch s) shape e v =
     let none = switch-first n s e in
     let empty : SoundOf (switchesOf n) [] [] = same-lists refl (sym (no-hosts n (none .0))) (sym (no-links n (none .1))) v in
     same-lists (switches-more n shape s e) (no-hosts n (none .0)) (no-links n (none .1))
-    (sound-switch empty (omega (arith, switches-long n, switch-room n {r = OfSwitch s} refl e)) (fine-switch n s (passes n (OfSwitch s) e .range)))
+    (sound-switch empty (omega (arith, switches-long n, switch-room n {r = OfSwitch s} refl e)) (switch-fine s (passes n (OfSwitch s) e .range)))
 sound-add n (OfHost h) shape e v =
     let none = host-second n h e in
     let pass = passes n (OfHost h) e in

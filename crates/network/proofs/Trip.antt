@@ -59,8 +59,8 @@ scan-there (r ∷ rs) n (suc turns) at t e p h =
 pub events-behind : EventsBehind
 unfolding networkFault readFault readEnd readNetwork versionless scanOf image
 events-behind n events e p h =
-    let s : scan (length (image n ++ events)) 1 (encodeAll (records n) ++ events) ≡ record { found = records n; end = 1 + length (encodeAll (records n)); whole = true } =
-    scan-there (records n) emptyNetwork (length (image n ++ events)) 1 events e p (omega arith) in
+    let s : scan (suc (length (image n ++ events))) 1 (encodeAll (records n) ++ events) ≡ record { found = records n; end = 1 + length (encodeAll (records n)); whole = true } =
+    scan-there (records n) emptyNetwork (suc (length (image n ++ events))) 1 events e p (omega arith) in
     let fine : readFault (image n ++ events) ≡ 0 = rw (le-ltb 60000 (length (image n ++ events)) h, ne-eqb (length (image n ++ events)) 0 (λ z. omega arith), s, e) in
     record {
       accepted = fine;
@@ -151,7 +151,7 @@ with-version b h =
 pub read-writes-back : ReadWritesBack
 unfolding readEnd scanOf image
 read-writes-back b h e =
-    let v = scan-back (length b) 1 (drop 1 b) (bytes-drop 1 b h) in
-    let rs = scan (length b) 1 (drop 1 b) .found in
+    let v = scan-back (suc (length b)) 1 (drop 1 b) (bytes-drop 1 b h) in
+    let rs = scan (suc (length b)) 1 (drop 1 b) .found in
     let whole : b ≡ 1 ∷ (encodeAll rs ++ v .behind) = with-version b (accepted b e .version) ∙ ap (λ l. 1 ∷ l) (v .bytes) in
     (read-fine b e, rw (accepted-records b e, v .end, one-add) (ap (λ l. 1 ∷ l) (sym (take-append-seam (encodeAll rs) (v .behind))) ∙ ap (λ l. take (suc (length (encodeAll rs))) l) (sym whole)))

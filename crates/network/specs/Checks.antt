@@ -6,7 +6,6 @@ use mathlib.Core.List.{List, [], _∷_}
 use lib.ListN.{getD}
 use lib.Dec.{eqb, ltb, leb}
 use Rattle.refusal.specs.Refusal.{Cause, when, first}
-use Rattle.refusal.specs.Exact.{ForItsCauseOnly}
 use Rattle.wire.specs.Address.{groupBit}
 use Rattle.network.specs.declared.Port.{Port}
 use Rattle.network.specs.declared.Switch.{Switch}
@@ -101,10 +100,6 @@ causes n r =
 -- a record's refusal number, 0 for none
 unfoldable pub recordFault : Network → Record → ℕ
 recordFault n r = first (causes n r)
-
--- for its listed cause only
-abbrev pub RecordsForItsCauseOnly : Type 0
-RecordsForItsCauseOnly = (n : Network) (r : Record) → ForItsCauseOnly (recordFault n r) (causes n r)
 
 -- the number that other checks gave, as a cause: it holds unless it is 0
 abbrev pub checked : ℕ → Cause

@@ -6,7 +6,6 @@ use mathlib.Core.List.{List, [], _∷_, _++_}
 use lib.ListN.{length, getD, drop}
 use lib.Dec.{eqb, ltb}
 use Rattle.refusal.specs.Refusal.{Cause, when, first, Told}
-use Rattle.refusal.specs.Exact.{ForItsCauseOnly}
 use Rattle.wire.specs.Wire.{put}
 use Rattle.network.specs.declared.Network.{Network}
 use Rattle.network.specs.declared.Record.{Record}
@@ -39,14 +38,14 @@ scanned End at behind = record { found = []; end = at; whole = true }
 scanned Bad at behind = record { found = []; end = at; whole = false }
 scanned (Got r) at behind = record { found = r ∷ behind r .found; end = behind r .end; whole = behind r .whole }
 
--- the bytes b, which stand at a place, record by record. Each record takes some bytes, so as many turns as there are bytes are enough
+-- the bytes b, which stand at a place, record by record. Each record takes some bytes, so one turn more than there are bytes is enough
 unfoldable pub scan : ℕ → ℕ → List ℕ → Scan
 scan zero at b = record { found = []; end = at; whole = false }
 scan (suc turns) at b = scanned (startOf b) at (λ r. scan turns (at + length (encode r)) (drop (length (encode r)) b))
 
 -- the records behind the version byte
 unfoldable pub scanOf : List ℕ → Scan
-scanOf b = scan (length b) 1 (drop 1 b)
+scanOf b = scan (suc (length b)) 1 (drop 1 b)
 
 -- 21: description empty, or first byte not the version
 unfoldable pub versionless : List ℕ → Bool
@@ -64,10 +63,6 @@ readCauses b =
 -- the reader's refusal number, 0 for none
 unfoldable pub readFault : List ℕ → ℕ
 readFault b = first (readCauses b)
-
--- so it refuses for its listed cause only; the records' own number is for their first faulty one's
-abbrev pub ReadsForItsCauseOnly : Type 0
-ReadsForItsCauseOnly = (b : List ℕ) → ForItsCauseOnly (readFault b) (readCauses b)
 
 -- where the description ends
 unfoldable pub readEnd : List ℕ → ℕ
@@ -93,10 +88,6 @@ writeCauses n room = checked (networkFault n) ∷ when 27 (ltb room (length (ima
 -- the writer's refusal number, 0 for none
 unfoldable pub writeFault : Network → ℕ → ℕ
 writeFault n room = first (writeCauses n room)
-
--- so it refuses for its listed cause only
-abbrev pub WritesForItsCauseOnly : Type 0
-WritesForItsCauseOnly = (n : Network) (room : ℕ) → ForItsCauseOnly (writeFault n room) (writeCauses n room)
 
 -- the output: the description at its start, and what is behind stays; unchanged on refusal
 unfoldable pub written : Network → List ℕ → List ℕ

@@ -4,3 +4,4 @@ pub mod Checks
 pub mod Describe
 pub mod RoundTrip
 pub mod Sound
+pub mod Causes

@@ -11,7 +11,7 @@ use Rattle.network.specs.declared.Host.{Host}
 use Rattle.network.specs.declared.Link.{Link}
 use Rattle.network.specs.declared.Network.{Network}
 use Rattle.network.specs.Network.{mostSwitches, mostHosts, mostLinks, noSwitch, noHost, noLink, switchesOf, hostsOf, linksOf}
-use Rattle.wire.specs.Address.{groupBit}
+use Rattle.wire.specs.Address.{Source}
 use Rattle.network.specs.Checks.{networkFault}
 
 -- a switch's numbers are in range
@@ -26,16 +26,10 @@ pub record Standing (ss : List Switch) (p : Port) : Type 0 where
   pub switch : p .switch < length ss
   pub number : p .number < getD ss (p .switch) noSwitch .ports
 
--- six bytes, neither zero nor group
-pub record FineAddress (address : ℕ) : Type 0 where
-  pub nonzero : address ≢ 0
-  pub below : address < 2 ^ 48
-  pub single : groupBit address ≢ 1
-
--- a host's cable goes to a port that there is, and its address can be a source
+-- a host's cable goes to a port that there is, and its address is a source
 pub record FineHost (ss : List Switch) (h : Host) : Type 0 where
   pub port : Standing ss (h .port)
-  pub address : FineAddress (h .address)
+  pub address : Source (h .address)
 
 -- a link's ends are two ports that there are
 pub record FineLink (ss : List Switch) (l : Link) : Type 0 where

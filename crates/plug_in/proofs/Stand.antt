@@ -1,14 +1,13 @@
 -- Facts of an accepted network, in the words of a turn: how many switches and hosts it has, its hosts' addresses and ports, and what is plugged in where.
-use Prim.Native.Nat.{ℕ, zero, suc, _/_, _^_, _≤_, _<_}
+use Prim.Native.Nat.{ℕ, zero, suc, _≤_, _<_}
 use mathlib.Core.Path.{_≡_, refl, sym, ap, subst, _∙_}
-use mathlib.Core.Logic.{_≢_, by-cases}
+use mathlib.Core.Logic.{by-cases}
 use mathlib.Core.Bool.{Bool}
 use mathlib.Core.List.{List, [], _∷_, List·Memᴰ, List·Memᴰ·head, List·Memᴰ·tail}
 use native.Mathlib.Decide.{ℕ-discrete}
-use native.Mathlib.Nat.{mod-lt}
 use native.Mathlib.Omega.{arith}
 use lib.ListN.{getD, length}
-use Rattle.wire.specs.Address.{Source, groupBit}
+use Rattle.wire.specs.Address.{Source}
 use Rattle.network.specs.declared.Network.{Network}
 use Rattle.network.specs.declared.Host.{Host}
 use Rattle.network.specs.Network.{hostsOf, mostHosts, mostSwitches, noHost}
@@ -47,13 +46,7 @@ module _ (n : Network) (fine : networkFault n ≡ 0) where
 
   -- a host's address is a source
   pub host-source : (i : ℕ) → i < n .nhosts → Source (hostOf n i .address)
-  host-source i h =
-      let a = accepted-is-sound n fine .host i (counted h) .address in
-      subst (λ (host : Host). Source (host .address)) (listed i h)
-      (record { nonzero = a .nonzero; below = a .below; single = zero-bit (getD (hostsOf n) i noHost .address) (a .single) })
-    where
-      zero-bit : (x : ℕ) → groupBit x ≢ 1 → groupBit x ≡ 0
-      zero-bit x d = let small : groupBit x < 2 = mod-lt (x / 2 ^ 40) (omega arith) in omega arith
+  host-source i h = subst (λ (host : Host). Source (host .address)) (listed i h) (accepted-is-sound n fine .host i (counted h) .address)
 
   -- no two hosts have one address
   pub address-once : (i j : ℕ) → i < n .nhosts → j < n .nhosts → hostOf n i .address ≡ hostOf n j .address → i ≡ j
