@@ -1,4 +1,5 @@
 pub mod Laws
 pub mod Doors
+pub mod Causes
 mod Records
 mod Starts
