@@ -139,7 +139,11 @@ fn check(
     if !switch.is_live(arrival) {
         return Err(refusal::PORT_DOWN);
     }
-    let from_host = switch.is_host_port(arrival);
+    check_frame(switch.is_host_port(arrival), frame, room)
+}
+
+/// Refusals 4 to 9. The port's role, not the frame, decides what is asked.
+fn check_frame(from_host: bool, frame: &[u8], room: usize) -> Result<(), Refusal> {
     let lengths = if from_host { HOST_LENGTHS } else { TAGGED_LENGTHS };
     if !lengths.contains(&frame.len()) {
         return Err(refusal::LENGTH);
@@ -175,13 +179,41 @@ pub fn rules(
     destination: u64,
     received: Option<Header>,
 ) -> Outcome {
-    let mut table_full = false;
-    let mut overwrote = false;
-    let salt = switch.salt;
-    let flood = switch.live & !bit(arrival);
+    // Rule 1.
+    let header = header(switch, source, received);
+    let mut step = Step {
+        switch,
+        filter,
+        arrival,
+        source,
+        destination,
+        header,
+        table_full: false,
+        overwrote: false,
+    };
+    // Rule 2, before the filter: a copy too old would mark the frame as seen.
+    if step.header.hc > step.switch.limit {
+        return step.too_many_hops();
+    }
+    // Rule 3: with F clear, nothing is asked and nothing recorded.
+    let duplicate = step.header.f && step.ask_then_record();
+    // Rules 4 to 6.
+    step.learn(duplicate);
+    // Rule 7: duplicate.
+    if duplicate {
+        return step.dropped(Verdict::D);
+    }
+    // Rule 8: flooded frames keep flooding.
+    if step.header.f {
+        return step.sent(Verdict::F, step.flood());
+    }
+    // Rules 9 to 11.
+    step.follow_entry()
+}
 
-    // Rule 1: the header.
-    let mut header = match received {
+/// Rule 1: the header. A host's frame gets one, any other is a hop further.
+fn header(switch: &mut Switch, source: u64, received: Option<Header>) -> Header {
+    match received {
         None => {
             let nonce = switch.next_nonce;
             switch.next_nonce = (nonce + 1) % NONCES;
@@ -189,87 +221,122 @@ pub fn rules(
             Header { l: true, f, hc: 1, nonce }
         }
         Some(header) => Header { hc: header.hc + 1, ..header },
-    };
-    let triple = |header: Header| Triple { source, nonce: header.nonce, l: header.l };
-
-    // Rule 2: too many hops. This stands before the filter, or a copy too old
-    // would mark the frame as seen.
-    if header.hc > switch.limit {
-        if !header.f {
-            switch.table.erase(destination);
-        }
-        return dropped(Verdict::X, table_full, overwrote);
     }
-
-    // Rule 3: ask the filter, then record.
-    let mut duplicate = false;
-    if header.f {
-        duplicate = filter::is_duplicate(filter, salt, triple(header));
-        overwrote = filter::record(filter, salt, triple(header));
-    }
-
-    // Rule 4: the reading that rules 5 and 6 use.
-    let entry = switch.table.lookup(source);
-
-    // Rule 5: a frame of our own host has come back from a failure.
-    if !duplicate && !header.l && entry.is_some_and(|entry| entry.hops == 1) {
-        switch.table.erase(destination);
-    }
-
-    // Rule 6: learn.
-    let better = entry.is_none_or(|entry| header.hc < entry.hops);
-    if better || header.l && !duplicate {
-        table_full = switch.table.learn(source, arrival, header.hc);
-    }
-
-    // Rule 7: duplicate.
-    if duplicate {
-        return dropped(Verdict::D, table_full, overwrote);
-    }
-
-    let send = |verdict, mask, header, overwrote| Outcome {
-        verdict,
-        mask,
-        header,
-        table_full,
-        overwrote,
-    };
-
-    // Rule 8: flooded frames keep flooding.
-    if header.f {
-        return send(Verdict::F, flood, header, overwrote);
-    }
-
-    // Rule 9: nowhere to go.
-    let target = switch.table.lookup(destination).filter(|entry| switch.is_live(entry.port));
-    let Some(target) = target else {
-        if !header.l {
-            return dropped(Verdict::G, table_full, overwrote);
-        }
-        header.f = true;
-        if header.hc == 1 {
-            overwrote = filter::record(filter, salt, triple(header));
-            return send(Verdict::N, flood, header, overwrote);
-        }
-        header.l = false;
-        overwrote = filter::record(filter, salt, triple(header));
-        return send(Verdict::B, flood | bit(arrival), header, overwrote);
-    };
-
-    // Rule 10: hairpin turn.
-    if target.port == arrival {
-        if header.l {
-            header.l = false;
-            return send(Verdict::H, bit(arrival), header, overwrote);
-        }
-        switch.table.erase(destination);
-        return dropped(Verdict::E, table_full, overwrote);
-    }
-
-    // Rule 11: the common case.
-    send(Verdict::U, bit(target.port), header, overwrote)
 }
 
-fn dropped(verdict: Verdict, table_full: bool, overwrote: bool) -> Outcome {
-    Outcome { verdict, mask: 0, header: Header::default(), table_full, overwrote }
+/// A step on its way through the rules: what they read, and what they change.
+struct Step<'a> {
+    switch: &'a mut Switch,
+    filter: &'a mut [u8],
+    arrival: u8,
+    source: u64,
+    destination: u64,
+    header: Header,
+    table_full: bool,
+    overwrote: bool,
+}
+
+impl Step<'_> {
+    /// Rule 2: too many hops. A flooded frame followed no entries; any other
+    /// did, and they led it astray.
+    fn too_many_hops(&mut self) -> Outcome {
+        if !self.header.f {
+            self.switch.table.erase(self.destination);
+        }
+        self.dropped(Verdict::X)
+    }
+
+    /// Rule 3: in this order, or every frame would be a duplicate of itself.
+    fn ask_then_record(&mut self) -> bool {
+        let duplicate = filter::is_duplicate(self.filter, self.switch.salt, self.triple());
+        self.record();
+        duplicate
+    }
+
+    /// Rules 4 to 6, in one function because 5 and 6 share the reading of 4.
+    fn learn(&mut self, duplicate: bool) {
+        let Header { l, hc, .. } = self.header;
+
+        // Rule 4: before rule 5, which erases this entry if the source sends
+        // to itself.
+        let entry = self.switch.table.lookup(self.source);
+
+        // Rule 5: a frame of our own host has come back from a failure.
+        if !duplicate && !l && entry.is_some_and(|entry| entry.hops == 1) {
+            self.switch.table.erase(self.destination);
+        }
+
+        // Rule 6: learn.
+        let better = entry.is_none_or(|entry| hc < entry.hops);
+        if better || l && !duplicate {
+            self.table_full = self.switch.table.learn(self.source, self.arrival, hc);
+        }
+    }
+
+    /// Rules 9 to 11: a frame that isn't flooded goes where the destination's
+    /// entry says.
+    fn follow_entry(&mut self) -> Outcome {
+        let entry = self.switch.table.lookup(self.destination);
+        let Some(target) = entry.filter(|entry| self.switch.is_live(entry.port)) else {
+            return self.nowhere_to_go();
+        };
+        if target.port == self.arrival {
+            return self.hairpin_turn();
+        }
+        // Rule 11: the common case.
+        self.sent(Verdict::U, bit(target.port))
+    }
+
+    /// Rule 9: nowhere to go. A new flood is recorded here, or a copy of it
+    /// that comes back would be taken for a frame not seen yet.
+    fn nowhere_to_go(&mut self) -> Outcome {
+        if !self.header.l {
+            return self.dropped(Verdict::G);
+        }
+        self.header.f = true;
+        if self.header.hc == 1 {
+            self.record();
+            return self.sent(Verdict::N, self.flood());
+        }
+        // L is part of the triple, so it is cleared before the record.
+        self.header.l = false;
+        self.record();
+        self.sent(Verdict::B, self.flood() | bit(self.arrival))
+    }
+
+    /// Rule 10: hairpin turn. L is cleared by the first, so that a second one
+    /// is known.
+    fn hairpin_turn(&mut self) -> Outcome {
+        if self.header.l {
+            self.header.l = false;
+            return self.sent(Verdict::H, bit(self.arrival));
+        }
+        self.switch.table.erase(self.destination);
+        self.dropped(Verdict::E)
+    }
+
+    /// All live ports but the arrival port.
+    fn flood(&self) -> u16 {
+        self.switch.live & !bit(self.arrival)
+    }
+
+    fn triple(&self) -> Triple {
+        Triple { source: self.source, nonce: self.header.nonce, l: self.header.l }
+    }
+
+    /// A step records at most once: rule 3 with F set, rule 9 with F clear.
+    fn record(&mut self) {
+        let triple = self.triple();
+        self.overwrote = filter::record(self.filter, self.switch.salt, triple);
+    }
+
+    fn sent(&self, verdict: Verdict, mask: u16) -> Outcome {
+        let Step { header, table_full, overwrote, .. } = *self;
+        Outcome { verdict, mask, header, table_full, overwrote }
+    }
+
+    fn dropped(&self, verdict: Verdict) -> Outcome {
+        let Step { table_full, overwrote, .. } = *self;
+        Outcome { verdict, mask: 0, header: Header::default(), table_full, overwrote }
+    }
 }

@@ -80,47 +80,17 @@ impl Coverage {
         seen.extend(edge.as_deref());
         for line in answer.lines() {
             let tokens: Vec<&str> = line.split(' ').collect();
-            match (kind, &tokens[..]) {
-                (_, ["refused", number]) => self.outcome(kind, &format!("refused {number}")),
-                (Kind::Step, ["step", verdict, mask, _, _, "1", nonce, full, overwrote]) => {
-                    self.outcome(kind, verdict);
-                    seen.extend((*nonce == "16777215").then_some("nonce came round"));
-                    seen.extend(stepped(mask, verdict, full, overwrote));
-                }
-                (Kind::Step, ["step", verdict, mask, _, _, _, _, full, overwrote]) => {
-                    self.outcome(kind, verdict);
-                    seen.extend(stepped(mask, verdict, full, overwrote));
-                }
-                (Kind::Tag | Kind::Strip | Kind::Read | Kind::Write, [word, ..])
-                    if ["tagged", "stripped", "read", "written"].contains(word) =>
-                {
-                    self.outcome(kind, word);
-                }
-                (Kind::Fresh, ["fresh"]) => self.outcome(kind, "fresh"),
-                (Kind::Event | Kind::Run, ["report", verdict, rest @ ..]) => {
-                    self.outcome(kind, verdict);
-                    seen.extend(reported(kind, verdict, rest));
-                }
-                (Kind::Run | Kind::Bench, [_, "I" | "T" | "K", number, "R", ..]) => {
-                    self.outcome(kind, &format!("refused {number}"));
-                }
-                (Kind::Bench, [_, "I" | "T" | "K", "0", verdict, ..]) => {
-                    self.outcome(kind, verdict);
-                }
-                (Kind::Run | Kind::Bench, ["stop", "20"]) => self.outcome(kind, "stop 20"),
-                (_, ["unreadable"]) => self.outcome(kind, "unreadable"),
-                _ => {}
+            if let Some(outcome) = outcome(kind, &tokens) {
+                *self.calls.entry((kind, outcome)).or_default() += 1;
             }
+            seen.extend(circumstances(kind, &tokens));
         }
+        // A circumstance counts once an item, however many lines show it.
         seen.sort_unstable();
         seen.dedup();
         for circumstance in seen {
             *self.circumstances.entry(circumstance.to_string()).or_default() += 1;
         }
-    }
-
-    fn outcome(&mut self, kind: Kind, outcome: &str) {
-        *self.calls.entry((kind, outcome.to_string())).or_default() += 1;
     }
 
     /// Prints all counts and gives what is missing among these kinds.
@@ -151,6 +121,46 @@ impl Coverage {
         }
         println!("circumstances: {}", counts.join(", "));
         missing
+    }
+}
+
+/// What a line of an answer says that a call came to, in the words of
+/// `required`. Most lines show what a call left and say nothing of that.
+fn outcome(kind: Kind, tokens: &[&str]) -> Option<String> {
+    let outcome = match (kind, tokens) {
+        (_, ["refused", number]) => format!("refused {number}"),
+        (Kind::Step, ["step", verdict, _, _, _, _, _, _, _]) => verdict.to_string(),
+        (Kind::Tag | Kind::Strip | Kind::Read | Kind::Write, [word, ..])
+            if ["tagged", "stripped", "read", "written"].contains(word) =>
+        {
+            word.to_string()
+        }
+        (Kind::Fresh, ["fresh"]) => "fresh".to_string(),
+        (Kind::Event | Kind::Run, ["report", verdict, ..]) => verdict.to_string(),
+        (Kind::Run | Kind::Bench, [_, "I" | "T" | "K", number, "R", ..]) => {
+            format!("refused {number}")
+        }
+        (Kind::Bench, [_, "I" | "T" | "K", "0", verdict, ..]) => verdict.to_string(),
+        (Kind::Run | Kind::Bench, ["stop", "20"]) => "stop 20".to_string(),
+        (_, ["unreadable"]) => "unreadable".to_string(),
+        _ => return None,
+    };
+    Some(outcome)
+}
+
+/// What a line of an answer shows besides the outcome.
+fn circumstances(kind: Kind, tokens: &[&str]) -> Vec<&'static str> {
+    match (kind, tokens) {
+        (Kind::Step, ["step", verdict, mask, _, _, hc, nonce, full, overwrote]) => {
+            let mut seen = stepped(mask, verdict, full, overwrote);
+            let came_round = *hc == "1" && *nonce == "16777215";
+            seen.extend(came_round.then_some("nonce came round"));
+            seen
+        }
+        (Kind::Event | Kind::Run, ["report", verdict, rest @ ..]) => {
+            reported(kind, verdict, rest)
+        }
+        _ => Vec::new(),
     }
 }
 

@@ -90,6 +90,7 @@ fn tail(r: &mut Random) -> Vec<u8> {
     r.pick(&tails).to_vec()
 }
 
+/// Something wrong at one record or between two, most times.
 fn damage_records(r: &mut Random, records: &mut Vec<Vec<u8>>) {
     let count = records.len();
     let place = r.below(count + 1);
@@ -102,33 +103,12 @@ fn damage_records(r: &mut Random, records: &mut Vec<Vec<u8>>) {
         return;
     }
     match r.below(10) {
-        0 => {
-            // The length field.
-            let length = r.pick(&[0, 1, 4, 5, 6, 7, 8, 9, 10]);
-            records[place][1] = length;
-        }
-        1 => records[place][0] = r.pick(&[1, 255]),
-        2 => records[place][2] = r.pick(&[0, 1, 2, 3, 4, 5, 6, 7, 8, 255]),
+        field @ 0..=2 => damage_field(r, &mut records[place], field),
         3 => {
             let at = r.below(records[place].len());
             records[place][at] = r.byte() >> r.below(8);
         }
-        4 => {
-            let record = records[place].clone();
-            records.insert(place, record);
-        }
-        5 => {
-            let other = r.below(count);
-            records.swap(place, other);
-        }
-        6 => {
-            // A record far behind where it belongs.
-            let record = records[place].clone();
-            records.push(record);
-        }
-        7 => {
-            records.remove(place);
-        }
+        way @ 4..=7 => misplace(r, records, place, way),
         8 => {
             // A byte too many or too few, length field as before.
             if r.flag() {
@@ -138,6 +118,32 @@ fn damage_records(r: &mut Random, records: &mut Vec<Vec<u8>>) {
             }
         }
         _ => one_more(r, records),
+    }
+}
+
+/// A wrong length field, in its low byte or its high byte, or a wrong kind.
+fn damage_field(r: &mut Random, record: &mut [u8], field: usize) {
+    match field {
+        0 => record[1] = r.pick(&[0, 1, 4, 5, 6, 7, 8, 9, 10]),
+        1 => record[0] = r.pick(&[1, 255]),
+        _ => record[2] = r.pick(&[0, 1, 2, 3, 4, 5, 6, 7, 8, 255]),
+    }
+}
+
+/// A record twice, swapped with another, again far behind where it belongs, or
+/// not there at all. Its bytes stay as they are.
+fn misplace(r: &mut Random, records: &mut Vec<Vec<u8>>, place: usize, way: usize) {
+    let record = records[place].clone();
+    match way {
+        4 => records.insert(place, record),
+        5 => {
+            let other = r.below(records.len());
+            records.swap(place, other);
+        }
+        6 => records.push(record),
+        _ => {
+            records.remove(place);
+        }
     }
 }
 

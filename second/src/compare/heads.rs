@@ -31,6 +31,34 @@ pub fn step_vector(r: &mut Random, labels: &mut Vec<&'static str>) -> String {
 
 /// A step that nothing is wrong with.
 fn sound(r: &mut Random, labels: &mut Vec<&'static str>) -> Case {
+    let (mut switch, arrival) = switch_and_arrival(r);
+    let source = addresses::source(r);
+    let destination = if r.chance(6) { source } else { addresses::destination(r) };
+    let from_host = switch.hosts >> arrival & 1 == 1;
+    let header = header(r, &switch, from_host);
+    let frame = if from_host {
+        let length = frames::length(r, 60, 1514);
+        frames::host_frame(r, length, source, destination)
+    } else {
+        let length = frames::length(r, 66, 1520);
+        frames::tagged_frame(r, length, source, destination, header)
+    };
+    let (ports, table) = (switch.ports, &mut switch.table);
+    fill_table(r, table, ports, &addresses::POOL);
+    if r.chance(50) {
+        put_entry(r, table, source, arrival, ports, header.hc + 1);
+    }
+    if r.chance(60) && second::frame::is_source(destination) {
+        put_entry(r, table, destination, arrival, ports, header.hc + 1);
+    }
+    let filter = filter_about(r, switch.salt, source, header);
+    let needed = frame.len() + if from_host { 6 } else { 0 };
+    let output = frames::room(r, needed, 0, labels);
+    Case { switch, filter, arrival, frame, output }
+}
+
+/// A switch that knows nobody yet, and a live port of it.
+fn switch_and_arrival(r: &mut Random) -> (Switch, u8) {
     let any = r.between(1, 16) as u8;
     let ports = r.pick(&[1, 2, 3, 4, 4, 4, 8, 15, 16, any]);
     let all = ((1u32 << ports) - 1) as u16;
@@ -43,33 +71,23 @@ fn sound(r: &mut Random, labels: &mut Vec<&'static str>) -> Case {
     let salt = salt(r);
     let some = r.word() % NONCES;
     let next_nonce = r.pick(&[0, 0, 1, NONCES - 2, NONCES - 1, some]);
-    let source = addresses::source(r);
-    let destination = if r.chance(6) { source } else { addresses::destination(r) };
+    let table = Table::empty();
+    (Switch { ports, live, hosts, limit, salt, next_nonce, table }, arrival)
+}
 
-    let from_host = hosts >> arrival & 1 == 1;
-    let header = if from_host {
-        Header { l: true, f: false, hc: 0, nonce: next_nonce }
-    } else {
-        let hc = hop_count(r, limit);
-        Header { l: r.flag(), f: r.flag(), hc, nonce: frames::nonce(r) }
-    };
-    let frame = if from_host {
-        let length = frames::length(r, 60, 1514);
-        frames::host_frame(r, length, source, destination)
-    } else {
-        let length = frames::length(r, 66, 1520);
-        frames::tagged_frame(r, length, source, destination, header)
-    };
-
-    let mut table = Table::empty();
-    fill_table(r, &mut table, ports, &addresses::POOL);
-    if r.chance(50) {
-        put_entry(r, &mut table, source, arrival, ports, header.hc + 1);
+/// The header a frame arrives with. A host's frame has none; this stands for
+/// it, a hop before the one that rule 1 gives.
+fn header(r: &mut Random, switch: &Switch, from_host: bool) -> Header {
+    if from_host {
+        return Header { l: true, f: false, hc: 0, nonce: switch.next_nonce };
     }
-    if r.chance(60) && second::frame::is_source(destination) {
-        put_entry(r, &mut table, destination, arrival, ports, header.hc + 1);
-    }
+    let hc = hop_count(r, switch.limit);
+    Header { l: r.flag(), f: r.flag(), hc, nonce: frames::nonce(r) }
+}
 
+/// A filter that may know a frame, or one nearly like it: as it arrives, and
+/// with L clear as rule 9 records it.
+fn filter_about(r: &mut Random, salt: u32, source: u64, header: Header) -> Vec<u8> {
     let cells = r.pick(&[16, 32, 64, 128, 256]);
     let mut filter = vec![0; cells * CELL];
     fill_filter(r, &mut filter);
@@ -79,11 +97,7 @@ fn sound(r: &mut Random, labels: &mut Vec<&'static str>) -> Case {
             put_near(r, &mut filter, salt, triple);
         }
     }
-
-    let needed = frame.len() + if from_host { 6 } else { 0 };
-    let output = frames::room(r, needed, 0, labels);
-    let switch = Switch { ports, live, hosts, limit, salt, next_nonce, table };
-    Case { switch, filter, arrival, frame, output }
+    filter
 }
 
 pub fn salt(r: &mut Random) -> u32 {

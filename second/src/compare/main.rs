@@ -229,29 +229,15 @@ fn compare_vectors(
     items: &[&Item],
     coverage: &mut Coverage,
 ) -> Result<Option<Difference>, String> {
-    if items.is_empty() {
+    let Some(last) = items.last() else {
         return Ok(None);
-    }
-    let mut input = Vec::new();
-    for item in items {
-        input.extend(&item.input);
-        input.push(b'\n');
-    }
-    let running = process::start(&options.other_vectors, input.clone())?;
-    let limit = Duration::from_secs(options.timeout);
-    let second = match &options.second {
-        Some(command) => {
-            process::start(&format!("{command} vectors"), input)?.finish(limit).bytes
-        }
-        None => {
-            let answer = |item: &&Item| {
-                let line = String::from_utf8_lossy(&item.input);
-                in_process(|| second::vectors::answer(&line), "stopped\nend\n")
-            };
-            items.iter().map(answer).collect::<String>().into_bytes()
-        }
     };
-    let other = running.finish(limit);
+    let lines: Vec<&[u8]> = items.iter().flat_map(|item| [&item.input, &b"\n"[..]]).collect();
+    let input = lines.concat();
+    // The other program is started first, so that both work at the same time.
+    let running = process::start(&options.other_vectors, input.clone())?;
+    let second = answer_vectors(options, items, input)?;
+    let other = running.finish(Duration::from_secs(options.timeout));
     let (ours, theirs) = (answers(&second), answers(&other.bytes));
     for (place, item) in items.iter().enumerate() {
         let our = ours.get(place).copied().unwrap_or_default();
@@ -262,13 +248,30 @@ fn compare_vectors(
         }
     }
     // More answers than vectors, or a bad end after all answers.
-    let last = items[items.len() - 1];
     if theirs.len() > items.len() || other.trouble.is_some() {
         let more = theirs.get(items.len()).copied().unwrap_or_default();
         let trouble = other.trouble.or(Some("more answers than vectors".to_string()));
         return Ok(Some(difference(last, b"", more, trouble)));
     }
     Ok(None)
+}
+
+/// What the second program answers, in a process of its own or in this one.
+fn answer_vectors(
+    options: &Options,
+    items: &[&Item],
+    input: Vec<u8>,
+) -> Result<Vec<u8>, String> {
+    if let Some(command) = &options.second {
+        let running = process::start(&format!("{command} vectors"), input)?;
+        return Ok(running.finish(Duration::from_secs(options.timeout)).bytes);
+    }
+    // One by one, so that only the vector at which it stops has no answer.
+    let answer = |item: &&Item| {
+        let line = String::from_utf8_lossy(&item.input);
+        in_process(|| second::vectors::answer(&line), "stopped\nend\n")
+    };
+    Ok(items.iter().map(answer).collect::<String>().into_bytes())
 }
 
 fn compare_bench(

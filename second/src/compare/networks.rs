@@ -121,17 +121,9 @@ fn damage_link(r: &mut Random, network: &mut Network) {
     let count = network.links().len();
     let place = r.below(count);
     let other = network.links[r.below(count)];
-    let host = if network.host_count == 0 {
-        End::default()
-    } else {
-        network.hosts[r.below(network.hosts().len())].end
-    };
+    let host = end_of_a_host(r, network);
     let switches = network.switch_count;
-    // Ends in use that may stand second without being out of order.
-    let first = network.links[place].ends[0];
-    let of_hosts = network.hosts().iter().map(|host| host.end);
-    let of_links = network.links().iter().flat_map(|link| link.ends);
-    let taken: Vec<End> = of_hosts.chain(of_links).filter(|end| *end > first).collect();
+    let taken = taken_behind(network, network.links[place].ends[0]);
     let ends = &mut network.links[place].ends;
     let side = r.below(2);
     let ports = network.switches[usize::from(ends[side].switch) % 16].ports;
@@ -161,4 +153,20 @@ fn damage_link(r: &mut Random, network: &mut Network) {
             ends[1] = r.pick(&[End { switch: 200, port: 0 }, End { switch: 0, port: 200 }]);
         }
     }
+}
+
+/// Where some host is, or the lowest end if there is none.
+fn end_of_a_host(r: &mut Random, network: &Network) -> End {
+    if network.host_count == 0 {
+        return End::default();
+    }
+    network.hosts[r.below(network.hosts().len())].end
+}
+
+/// Ends in use that may stand second without being out of order: 23 comes
+/// behind 26, which would hide it.
+fn taken_behind(network: &Network, first: End) -> Vec<End> {
+    let of_hosts = network.hosts().iter().map(|host| host.end);
+    let of_links = network.links().iter().flat_map(|link| link.ends);
+    of_hosts.chain(of_links).filter(|end| *end > first).collect()
 }
