@@ -1,9 +1,9 @@
 // The bench: a stand's heads, its links' states and the copies in flight, on which planners try a
 // stand before it is cabled.
 //
-// A bench is a value. Its events work on its parts lent as slices, so that a run keeps them in one
-// place and copies no more than the head that steps. What is plugged into each port is worked out
-// once from the description and handed along.
+// A bench is a value. Its events work on its parts lent as slices, as a run's do, which keeps them in
+// its locals and copies none. What is plugged into each port is worked out once from the description
+// and handed along.
 ghost use mathlib.Core.Bool.{true};
 ghost use mathlib.Core.Path.{_≡_};
 ghost use Prim.Native.Nat.{_<_, _≤_};

@@ -1,10 +1,9 @@
 // What the bench program prints, as one function from an input to a lent buffer.
 //
 // A run tests nothing that it has proved: the bench that a description gives is in shape, and every
-// event keeps it so. It keeps the stand's state in the locals of one loop, and an event copies no
-// more of it than the head whose turn it is. A head's masks are worked out from the links' states
-// when its turn comes; what the heads hold of them in between isn't read.
-ghost use mathlib.Core.Path.{_≡_};
+// event keeps it so. It keeps the stand's state in the locals of one loop, the heads' tables side by
+// side and their filters too, and lends an event what is its head's. A head's masks are worked out
+// from the links' states when its turn comes; in between nothing holds them.
 ghost use Rattle.transcript.specs.Transcript.{Prints};
 
 mod running;
