@@ -15,7 +15,7 @@ use Rattle.frame.specs.Header.{headerValues}
 use Rattle.frame.specs.Frame.{headerIn, stripAnswer, stripOutput, stripRefusal, tagAnswer, tagOutput, tagRefusal, toldStripping, toldTagging}
 use Rattle.engine.specs.Frames.{StripsLent, TagsLent}
 use Rattle.frame.proofs.Laws.{flag-bit}
-use Rattle.engine.proofs.Telling.{tells, tells-given, tells-kept, tells-number}
+use Rattle.engine.proofs.Telling.{tells-given, tells-kept, tells-number}
 
 module _ {frame out out′ : List ℕ} {h : Header} {a : Tagging} (told : toldTagging a ≡ tagAnswer frame h (length out)) (output : out′ ≡ tagOutput frame h out) where
   pub tags-refused : {m : ℕ} {held : List ℕ} → a ≡ NotTagged m → TagsLent frame h out held m out′ held

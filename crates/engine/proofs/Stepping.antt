@@ -1,6 +1,6 @@
 -- A step on what a caller lends: what the length tests give it, and what its answer makes of the lent report.
-use mathlib.Core.Path.{_≡_, refl, sym, ap, _∙_}
-use mathlib.Core.Bool.{Bool, true, false, _&&_, and-eq-true-iff}
+use mathlib.Core.Path.{_≡_, refl, _∙_}
+use mathlib.Core.Bool.{true, false, _&&_, and-eq-true-iff}
 use mathlib.Core.List.{List, []}
 use Prim.Native.Nat.{ℕ}
 use native.Mathlib.Omega.{arith}
@@ -11,7 +11,6 @@ use Rattle.refusal.specs.Refusal.{answered, leaves}
 use Rattle.table.specs.declared.Table.{Table}
 use Rattle.table.specs.Table.{Sized, slots}
 use Rattle.rules.specs.Verdict.{reportValues}
-use Rattle.rules.specs.declared.Report.{Report}
 use Rattle.head.specs.declared.Answer.{Answer}
 use Rattle.head.specs.declared.Answer.the-variants.{Refused, Done}
 use Rattle.head.specs.declared.Switch.{Switch}

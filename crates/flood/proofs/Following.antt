@@ -1,7 +1,7 @@
 -- Each cable that is followed leads to fewer hops; so no path comes back, and every path ends, at home.
 use Prim.Native.Nat.{ℕ, zero, suc, _<_}
 use mathlib.Core.Path.{_≡_, sym}
-use mathlib.Core.Logic.{_⊎_, inl, inr, ⊎-elim}
+use mathlib.Core.Logic.{inl, inr, ⊎-elim}
 use native.Mathlib.Nat.{lt-irrefl}
 use native.Mathlib.Omega.{arith}
 use Rattle.flood.specs.Mesh.{Mesh}

@@ -1,9 +1,8 @@
 // A step on lent slices: rule 1, the rules, and what goes out.
 ghost use mathlib.Core.Path.{_≡_};
-ghost use Prim.Native.Nat.{_<_, _%_, _+_, _^_};
+ghost use Prim.Native.Nat.{_<_};
 ghost use lib.ListN.{length};
 ghost use Rattle.table.specs.Table.{Sized, tableOf};
-ghost use Rattle.frame.specs.Frame.{headerIn};
 ghost use Rattle.rules.specs.Rules as spec;
 ghost use Rattle.head.specs.Step.{HasRoom, Steps, behindTag, refusal, refusalBut1, ruled, switchOf, written};
 ghost use Rattle.rules.specs.Verdict.{sendingOf};

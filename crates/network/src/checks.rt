@@ -6,7 +6,7 @@
 // array's end all elements are zeros, and one answers for the rest.
 ghost use mathlib.Core.Path.{_≡_};
 ghost use Prim.Native.Nat.{_-_};
-ghost use Rattle.network.specs.Network.{add, noHost, noLink, noSwitch, upTo};
+ghost use Rattle.network.specs.Network.{add, noHost, noLink, upTo};
 ghost use Rattle.network.specs.Checks.{any, badAddress, hasAddress, hostOn, linkOn, notAbove, outOfOrder, outOfRange, place, portTaken, recordFault, addressOut, switchOut, stands, taken, tooMany};
 use crate::Host;
 use crate::Link;

@@ -1,6 +1,6 @@
 // Masks over the sixteen ports that a switch may have.
 ghost use mathlib.Core.Path.{_≡_};
-ghost use Prim.Native.Nat.{_<_, _^_};
+ghost use Prim.Native.Nat.{_<_};
 ghost use Rattle.rules.specs.Mask.{names, only, allBut};
 
 // Whether a mask names a port; none names a port from 16 on.

@@ -5,7 +5,7 @@
 // slices, so that who keeps them elsewhere copies nothing; the methods of `Table` are the same by value.
 ghost use mathlib.Core.Bool.{false};
 ghost use mathlib.Core.Path.{_≡_};
-ghost use Prim.Native.Nat.{_<_, ℕ};
+ghost use Prim.Native.Nat.{_<_};
 ghost use lib.ListN.{getD};
 ghost use Rattle.table.specs.Table.{NoneOf, Passed, Sized, emptyTable, eraseOf, learnOf, learnedOf, lookupOf, markOf, marks, mayHold, slotFits, slotFor, slotOf, slots, tableOf, told, wellFormed};
 

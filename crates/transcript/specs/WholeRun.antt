@@ -1,7 +1,7 @@
 -- Document 01's whole run, as input and output bytes. The statement is a type; proofs/WholeRun has its term.
 use Prim.Native.Nat.{ℕ, _+_}
 use mathlib.Core.Path.{_≡_}
-use mathlib.Core.List.{List, [], _∷_, _++_}
+use mathlib.Core.List.{List, _++_}
 use Rattle.wire.specs.Wire.{bytesOf}
 use Rattle.lines.specs.Lines.{text}
 use Rattle.transcript.specs.Transcript.{transcript}

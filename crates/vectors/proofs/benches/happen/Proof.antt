@@ -18,7 +18,7 @@ use contract.Monad.{Fun, fact}
 use contract.Running.{givenOf, tables, tablesOf}
 use types.Kit.{Given, Go, Seq, atRet, runs, ‵, raw, _⊛_, given, some, later, _$_, _∵_, !, qed, by, move, keep, use1, use2, use3, split, join, pick, learn, check, show}
 use types.Kit.{fsplit, fjoin, fpick, fpack, suffices, frame, await, updating, now as at-once, done}
-use types.Run.{look, init, stop, from, load, addr, of-opd, and-then, no-more, assigns, land, returns}
+use types.Run.{look, init, stop, from, addr, of-opd, and-then, no-more, assigns, land, returns}
 use types.Run.{enter, alloc1, alloc0, params1, pass1, pass0, free0}
 use types.Part.{agg}
 use types.SemTy.{Body}
