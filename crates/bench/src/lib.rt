@@ -4,6 +4,8 @@
 // A bench is a value. Its events work on its parts lent as slices, as a run's do, which keeps them in
 // its locals and copies none. What is plugged into each port is worked out once from the description
 // and handed along.
+#![tactic(auto)]
+
 ghost use Rattle.std.specs.Prelude.{true, ◌≡◌, ◌<◌, ◌≤◌, get_or, length};
 ghost use Rattle.network.specs.Network.{most_links, most_switches, padded};
 ghost use Rattle.cabling.specs.Cabling.{plugs_of};
@@ -26,7 +28,7 @@ use seat::Seat;
 use table::Table;
 use turn::{Answer, head_of, turn};
 
-#[derive(Drop)]
+#[derive(Clone, Copy)]
 pub struct Bench {
     pub network: Network,
     // A link's state: whether it is up.
@@ -38,20 +40,20 @@ pub struct Bench {
 }
 
 // What an event answers, and the bench that it leaves.
-#[derive(Drop)]
+#[derive(Clone, Copy)]
 pub struct Happened {
     pub bench: Bench,
     pub answer: Answer,
 }
 
 // Whether a fresh bench was made: refused where the writer would refuse the network, with that number.
-#[derive(Drop)]
+#[derive(Clone, Copy)]
 pub enum Made {
     Refused(u8),
     Ready,
 }
 
-#[derive(Drop)]
+#[derive(Clone, Copy)]
 pub struct Fresh {
     pub made: Made,
     // Beside a refusal the fresh bench of the empty network.
@@ -90,7 +92,7 @@ fn head_at(seats: [Seat; Network::SWITCHES], k: usize) -> Seat
 }
 
 // A head behind its turn, the answer, and how many copies are then in flight.
-#[derive(Drop)]
+#[derive(Clone, Copy)]
 struct Taken {
     seat: Seat,
     answer: Answer,

@@ -3,6 +3,8 @@
 // The one idea: who asks what is at a port asks often, and the answer never changes. So the cables
 // are looked through once, and each port gets one number, of a host, of a link's end or of nothing.
 // A switch's setup follows from those numbers and from which links are up.
+#![tactic(auto)]
+
 ghost use Rattle.std.specs.Prelude.{◌≡◌, cond, ◌+◌, ◌*◌, ◌<◌, ◌≤◌, min, set};
 ghost use Rattle.network.specs.Network.{most_hosts, most_links};
 ghost use Rattle.rules.specs.Mask.{only};
@@ -13,14 +15,14 @@ use network::{Host, Link, Network, Port, Switch};
 use rules::Setup;
 
 // One end of a link.
-#[derive(Drop)]
+#[derive(Clone, Copy)]
 pub struct End {
     pub link: u8,
     pub second: bool,
 }
 
 // What a port has: no cable, a host's, or an end of a link.
-#[derive(Drop)]
+#[derive(Clone, Copy)]
 pub enum Plug {
     Open,
     Host(u8),

@@ -4,6 +4,8 @@
 // anything is added; what it adds is read off its answer, so that the counters are what the history
 // of events and answers says. The event by value is proved first, and the one that takes a lent
 // record is thin over it.
+#![tactic(auto)]
+
 ghost use Rattle.std.specs.Prelude.{◌≡◌, ◌^◌, ◌<◌, ◌≤◌};
 ghost use Rattle.flight.specs.Flight.{most};
 ghost use Rattle.counters.specs.Counters as spec;
@@ -15,7 +17,7 @@ use event::Event;
 use turn::{Answer, own_refusal};
 
 // Placed, taken, cut and lost count copies, delivered pairs of a host and an event, overwritten steps.
-#[derive(Drop)]
+#[derive(Clone, Copy)]
 pub struct Counters {
     pub placed: u64,
     pub taken: u64,
@@ -27,7 +29,7 @@ pub struct Counters {
 }
 
 // What an event answers and leaves, with the counters behind it.
-#[derive(Drop)]
+#[derive(Clone, Copy)]
 pub struct Counted {
     pub happened: Happened,
     pub counters: Counters,

@@ -1,6 +1,8 @@
 // Reads a description on standard input and writes it back on standard output, without the events
 // behind it: what comes back is the input's bytes up to where the description ended. A refused one
 // is answered by "refused " and the number.
+#![tactic(auto)]
+
 use network::Answer;
 
 // One byte more than the longest input, so that a longer one is refused and not cut.

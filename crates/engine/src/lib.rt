@@ -6,6 +6,8 @@
 // function asks anything of its arguments. What has a wrong length is refused, and a refused call
 // leaves everything lent as it was. The door for the bench is crate `engine_bench`, so that a head
 // is built without it.
+#![tactic(auto)]
+
 mod frames;
 mod heads;
 pub mod numbers;

@@ -3,12 +3,14 @@
 // The one idea: whether a record is whole is asked once, before anything of it is read; so an event
 // is read without a second question, and its values mean what they say. An address is six bytes
 // here, as in a frame, so that none is without a meaning.
+#![tactic(auto)]
+
 ghost use Rattle.std.specs.Prelude.{◌≡◌, false, ◌+◌, ◌≤◌, ◌<◌, drop, length};
 ghost use Rattle.wire.specs.Address.{address_bound};
 ghost use Rattle.event.specs.Event.{address_in, address_of, bad_event, event_in, event_length, letter_of, read_answer, size_of, told_answer};
 
 // An address, as its bytes stand in a frame.
-#[derive(Drop)]
+#[derive(Clone, Copy)]
 pub struct Address {
     pub b0: u8,
     pub b1: u8,
@@ -19,21 +21,21 @@ pub struct Address {
 }
 
 // A frame that a host presents.
-#[derive(Drop)]
+#[derive(Clone, Copy)]
 pub struct Presented {
     pub host: u8,
     pub to: Address,
 }
 
 // What a link is set to: 0 is down, 1 is up.
-#[derive(Drop)]
+#[derive(Clone, Copy)]
 pub struct Setting {
     pub link: u8,
     pub state: u8,
 }
 
 // What happens on a bench: a host presents a frame, the copy at a place is taken, a link is set.
-#[derive(Drop)]
+#[derive(Clone, Copy)]
 pub enum Event {
     Present(Presented),
     Take(u16),
@@ -41,7 +43,7 @@ pub enum Event {
 }
 
 // A refusal number, or the event.
-#[derive(Drop)]
+#[derive(Clone, Copy)]
 pub enum Answer {
     Refused(u8),
     Got(Event),

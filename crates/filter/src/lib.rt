@@ -4,6 +4,8 @@
 // triple overwrites what stands there. Nothing of this knows how many cells there are or how long a
 // key is: a cell is as wide as the key. Only the test whether a filter is well-formed, at the end,
 // knows a triple's ten bytes. Every step asks it, so it compares numbers and not byte by byte.
+#![tactic(auto)]
+
 ghost use Rattle.std.specs.Prelude.{◌≡◌, ◌+◌, ◌*◌, ◌/◌, ◌%◌, ◌^◌, ◌<◌, ◌≤◌, length};
 ghost use Rattle.wire.specs.Wire.{number, part};
 ghost use Rattle.wire.specs.Below.{all_below};
@@ -14,7 +16,7 @@ ghost use Rattle.filter.specs.Triple.{width, triple, is_cell, is_length, well_fo
 pub const CELL: usize = 10;
 
 // What recording found in the key's cell: the key itself, or another one that gave way to it.
-#[derive(Drop)]
+#[derive(Clone, Copy)]
 pub struct Recorded {
     pub duplicate: bool,
     pub overwrote: bool,

@@ -2,13 +2,15 @@
 //
 // Whatever leaves the list, those behind it move up, so that the list has no gaps. The work is done on copies packed into
 // three words each and lent as a slice, so that nothing but what moves is written; a bench by value holds them as structs.
+#![tactic(auto)]
+
 ghost use Rattle.std.specs.Prelude.{◌++◌, ◌≡◌, ◌-◌, ◌<◌, ◌≤◌, length, replicate};
 ghost use Rattle.flight.specs.Flight.{Cut, Joined, Ranged, TakenOut, Worded, copies_in, copy_at, most, no_copy, pack, unpack};
 
 use frame::Header;
 
 // A frame on its way over a link.
-#[derive(Drop)]
+#[derive(Clone, Copy)]
 pub struct Copy {
     pub link: u8,
     // Whether the link's second end receives it.

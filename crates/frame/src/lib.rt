@@ -4,13 +4,15 @@
 //
 // The header packs by shifts and masks, since it is a bit field; the definitions say the same in
 // arithmetic. Tagging and stripping take any bytes: whatever isn't a frame is refused by number.
+#![tactic(auto)]
+
 ghost use Rattle.std.specs.Prelude.{◌≡◌, ◌+◌, ◌-◌, ◌≤◌, length};
 ghost use Rattle.frame.specs.Header.{byte0, header_bytes, header_of, too_large};
 ghost use Rattle.frame.specs.Frame.{destination_of, source_of, type_of, tagged_twice, header_in, at_start, stripped, has_room, tag_into, tag_refusal, strip_refusal, tag_answer, tag_output, strip_answer, strip_output, told_tagging, told_stripping};
 
 use refusal::{is_outside, or_when};
 
-#[derive(Drop)]
+#[derive(Clone, Copy)]
 pub struct Header {
     pub l: bool,
     pub f: bool,
@@ -19,7 +21,7 @@ pub struct Header {
 }
 
 // The format's sizes and places.
-#[derive(Drop)]
+#[derive(Clone, Copy)]
 pub struct Frame {}
 
 impl Frame {
@@ -49,20 +51,20 @@ impl Frame {
 }
 
 // The tagged frame's length, or why there is none.
-#[derive(Drop)]
+#[derive(Clone, Copy)]
 pub enum Tagging {
     Refused(u8),
     Tagged(usize),
 }
 
-#[derive(Drop)]
+#[derive(Clone, Copy)]
 pub struct Host {
     pub len: usize,
     pub header: Header,
 }
 
 // The host frame's length and the header, or why there are none.
-#[derive(Drop)]
+#[derive(Clone, Copy)]
 pub enum Stripping {
     Refused(u8),
     Stripped(Host),

@@ -12,7 +12,7 @@ use rules::masks::has_port;
 use rules::{Report, Sending, Setup, Verdict, nonce_after, rule1, rules, sending_of};
 
 // The answer, and the next nonce.
-#[derive(Drop)]
+#[derive(Clone, Copy)]
 pub struct Turn {
     pub answer: Answer,
     pub nonce: u32,

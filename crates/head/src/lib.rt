@@ -5,6 +5,8 @@
 // and the learning table; the filter stays lent. The public step takes the switch by value. The
 // work is done on the table's arrays lent as slices, so that whoever keeps them elsewhere, a bench
 // or a head in C, copies nothing.
+#![tactic(auto)]
+
 pub mod causes;
 pub mod inner;
 
@@ -14,20 +16,20 @@ ghost use Rattle.head.specs.Step.{Steps, refusal};
 use rules::{Report, Setup};
 use table::Table;
 
-#[derive(Drop)]
+#[derive(Clone, Copy)]
 pub struct Switch {
     pub setup: Setup,
     pub nonce: u32,
     pub table: Table,
 }
 
-#[derive(Drop)]
+#[derive(Clone, Copy)]
 pub enum Answer {
     Refused(u8),
     Done(Report),
 }
 
-#[derive(Drop)]
+#[derive(Clone, Copy)]
 pub struct Stepped {
     pub switch: Switch,
     pub answer: Answer,

@@ -1,6 +1,8 @@
 // A network and a bench as plain arrays of numbers, which a C caller can lend: specs/Layout.antt
 // draws them. Each part of an array is read and laid by one loop, and every laid array is written
 // wholly, so what is laid reads back as the value that it was.
+#![tactic(auto)]
+
 ghost use Rattle.std.specs.Prelude.{◌≡◌};
 ghost use Rattle.layout.specs.Layout.{HoldsBench, HoldsNetwork, LaidBench, LaidNetwork, bench_fits, bench_in, network_fits, network_in};
 

@@ -3,13 +3,15 @@
 // The one idea: digits are written from the back, where they fall out of a division, into the room
 // that their count has set aside; one function serves decimal numbers and hexadecimal ones. A line
 // is then its parts put one behind the other.
+#![tactic(auto)]
+
 ghost use Rattle.std.specs.Prelude.{◌≡◌, ◌+◌, ◌<◌, ◌≤◌, length};
 ghost use Rattle.wire.specs.Wire.{put};
 ghost use Rattle.lines.specs.Lines.{decimal, digits, ending, field, hex_of, line_of, marked, refused_line, stop_line, width};
 
 // One event's line: its number from 1 on, its letter, the refusal number or 0, the verdict's
 // letter, a bit for each host that received, and the copies in flight.
-#[derive(Drop)]
+#[derive(Clone, Copy)]
 pub struct Line {
     pub number: u32,
     pub letter: u8,

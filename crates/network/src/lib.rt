@@ -8,6 +8,8 @@
 // A network is three arrays with counts, by value. Unused places are no part of it: they are never
 // looked at, and the reader leaves them all zeros. A count may say more than its array has; such a
 // network has more records than there may be, and is refused for that.
+#![tactic(auto)]
+
 ghost use Rattle.std.specs.Prelude.{◌≡◌, ◌∷◌, [], length};
 ghost use Rattle.refusal.specs.Refusal.{answered};
 ghost use Rattle.network.specs.Network.{empty_network, limit_of};
@@ -20,32 +22,32 @@ pub mod places;
 mod records;
 
 // A port of a switch: the switch's number, and the port's on it.
-#[derive(Drop)]
+#[derive(Clone, Copy)]
 pub struct Port {
     pub switch: u8,
     pub number: u8,
 }
 
-#[derive(Drop)]
+#[derive(Clone, Copy)]
 pub struct Switch {
     pub ports: u8,
     pub limit: u8,
     pub salt: u32,
 }
 
-#[derive(Drop)]
+#[derive(Clone, Copy)]
 pub struct Host {
     pub port: Port,
     pub address: u64,
 }
 
-#[derive(Drop)]
+#[derive(Clone, Copy)]
 pub struct Link {
     pub first: Port,
     pub second: Port,
 }
 
-#[derive(Drop)]
+#[derive(Clone, Copy)]
 pub struct Network {
     pub switches: [Switch; Network::SWITCHES],
     pub hosts: [Host; Network::HOSTS],
@@ -56,7 +58,7 @@ pub struct Network {
 }
 
 // One record of a description.
-#[derive(Drop)]
+#[derive(Clone, Copy)]
 pub enum Record {
     Switch(Switch),
     Host(Host),
@@ -64,7 +66,7 @@ pub enum Record {
 }
 
 // What bytes start with: the description's end, a record, or what is neither.
-#[derive(Drop)]
+#[derive(Clone, Copy)]
 pub enum Start {
     End,
     Bad,
@@ -72,14 +74,14 @@ pub enum Start {
 }
 
 // A refusal number, or before which byte the description ends.
-#[derive(Drop)]
+#[derive(Clone, Copy)]
 pub enum Answer {
     Refused(u8),
     Ends(usize),
 }
 
 // What the reader answers, and the network; the empty one beside a refusal.
-#[derive(Drop)]
+#[derive(Clone, Copy)]
 pub struct Described {
     pub answer: Answer,
     pub network: Network,

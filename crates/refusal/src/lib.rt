@@ -2,6 +2,8 @@
 // one that holds gives the number. A call goes through its causes as through the document's
 // table, one `or_when` a row, and the laws here say that it then refuses with n exactly when
 // cause n holds and none before it.
+#![tactic(auto)]
+
 ghost use Rattle.std.specs.Prelude.{◌≡◌};
 ghost use Rattle.refusal.specs.Refusal.{when, next, outside};
 

@@ -1,6 +1,8 @@
 // Rules 1 to 11 of the practical AXE algorithm, as document 01 fixes them: flood, drop duplicates,
 // learn. Each rule is a function of its own number, on the table's three arrays and the filter
 // lent as slices, so that nothing is copied. What a rule leaves is said of all of them at once.
+#![tactic(auto)]
+
 pub mod masks;
 
 ghost use Rattle.std.specs.Prelude.{false, List, ◌≡◌, ℕ, ◌<◌};
@@ -15,7 +17,7 @@ use frame::{Frame, Header};
 use masks::{all_but, has_port, only_port};
 use table::{Found, erase_in, learn_in, lookup_in};
 
-#[derive(Drop)]
+#[derive(Clone, Copy)]
 pub struct Setup {
     pub ports: u8,
     // Bit p of a mask stands for port p.
@@ -26,7 +28,7 @@ pub struct Setup {
 }
 
 // A frame as rules 2 to 11 see it: with the header that rule 1 gave it.
-#[derive(Drop)]
+#[derive(Clone, Copy)]
 pub struct Arrival {
     pub port: u8,
     pub source: u64,
@@ -35,13 +37,13 @@ pub struct Arrival {
 }
 
 // Every copy of one step carries the same header.
-#[derive(Drop)]
+#[derive(Clone, Copy)]
 pub struct Send {
     pub mask: u16,
     pub header: Header,
 }
 
-#[derive(Drop)]
+#[derive(Clone, Copy)]
 pub enum Verdict {
     X,
     D,
@@ -54,20 +56,20 @@ pub enum Verdict {
     U(Send),
 }
 
-#[derive(Drop)]
+#[derive(Clone, Copy)]
 pub enum Sending {
     Nothing,
     Copies(Send),
 }
 
 // A verdict, and whether the record that came with it overwrote another triple.
-#[derive(Drop)]
+#[derive(Clone, Copy)]
 pub struct Outcome {
     pub verdict: Verdict,
     pub overwrote: bool,
 }
 
-#[derive(Drop)]
+#[derive(Clone, Copy)]
 pub struct Report {
     pub verdict: Verdict,
     pub full: bool,

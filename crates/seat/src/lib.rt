@@ -1,6 +1,8 @@
 // A head on the bench: its switch, and a filter of 64 cells, by value. A frame has no payload here,
 // so rule 1 is said of addresses and a header. Rule 1 and the step take the table's arrays and the
 // cells lent, so that a run, which keeps those of all heads side by side, copies none.
+#![tactic(auto)]
+
 ghost use Rattle.std.specs.Prelude.{◌≡◌, ◌<◌};
 ghost use Rattle.refusal.specs.Refusal.{first};
 ghost use Rattle.table.specs.Table.{Sized, lookup_of, table_of};
@@ -14,14 +16,14 @@ use head::causes::switch_refusal;
 use rules::{Arrival, Report, Setup, nonce_after, rules};
 use table::{Found, Table, lookup_in};
 
-#[derive(Drop)]
+#[derive(Clone, Copy)]
 pub struct Seat {
     pub switch: Switch,
     pub cells: [u8; Seat::CELLS],
 }
 
 // What a step reports, and the next nonce.
-#[derive(Drop)]
+#[derive(Clone, Copy)]
 pub struct Stepped {
     pub report: Report,
     pub nonce: u32,

@@ -1,5 +1,7 @@
 // The bench program: reads a stand's description followed by events on standard input, and prints a
 // line for each event. What it prints is what `transcript` is proved to write.
+#![tactic(auto)]
+
 use transcript::Printed;
 
 // One byte more than the longest input, so that a longer one is refused and not cut.

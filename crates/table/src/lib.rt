@@ -3,31 +3,33 @@
 // One search serves everything, the first place of an address among the slots: it finds an entry, it finds the lowest empty slot (the first
 // place of zero), and no address stands twice exactly where each is in its own first place. The work is done on the three arrays lent as
 // slices, so that who keeps them elsewhere copies nothing; the methods of `Table` are the same by value.
+#![tactic(auto)]
+
 ghost use Rattle.std.specs.Prelude.{false, ◌≡◌, ◌<◌, get_or};
 ghost use Rattle.table.specs.Table.{NoneOf, Passed, Sized, empty_table, erase_of, learn_of, learned_of, lookup_of, mark_of, marks, may_hold, slot_fits, slot_for, slot_of, slots, table_of, told, well_formed};
 
 // Slot i is place i of the three arrays, and an empty slot is zero in all three.
-#[derive(Drop)]
+#[derive(Clone, Copy)]
 pub struct Table {
     pub addresses: [u64; Table::SLOTS],
     pub ports: [u8; Table::SLOTS],
     pub hops: [u8; Table::SLOTS],
 }
 
-#[derive(Drop)]
+#[derive(Clone, Copy)]
 pub struct Entry {
     pub port: u8,
     pub hops: u8,
 }
 
-#[derive(Drop)]
+#[derive(Clone, Copy)]
 pub enum Found {
     Entry(Entry),
     Absent,
 }
 
 // A full table comes back as it was: the new address isn't learned.
-#[derive(Drop)]
+#[derive(Clone, Copy)]
 pub struct Learned {
     pub full: bool,
     pub table: Table,

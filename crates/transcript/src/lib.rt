@@ -4,6 +4,8 @@
 // event keeps it so. It keeps the stand's state in the locals of one loop, the heads' tables side by
 // side and their filters too, and lends an event what is its head's. A head's masks are worked out
 // from the links' states when its turn comes; in between nothing holds them.
+#![tactic(auto)]
+
 ghost use Rattle.transcript.specs.Transcript.{Prints};
 
 mod running;
@@ -11,7 +13,7 @@ mod running;
 use network::read;
 
 // How many bytes were written; none into a buffer that could be too short.
-#[derive(Drop)]
+#[derive(Clone, Copy)]
 pub enum Printed {
     TooShort,
     Wrote(usize),

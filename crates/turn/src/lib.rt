@@ -1,6 +1,8 @@
 // A head's turn at an event, on the parts of a bench, all lent: the head's table and cells, the links'
 // states and the packed copies, so that a run copies none of them. The plugs are those of the network,
 // worked out once for a whole run.
+#![tactic(auto)]
+
 pub mod sending;
 
 ghost use Rattle.std.specs.Prelude.{Bool, List, ◌≡◌, ℕ, ◌<◌, length, take};
@@ -26,7 +28,7 @@ use seat::{from_host, from_link, step};
 use sending::send_out;
 
 // What a step on the bench did: enough to count, to capture and to follow a frame by.
-#[derive(Drop)]
+#[derive(Clone, Copy)]
 pub struct Report {
     pub switch: u8,
     pub port: u8,
@@ -42,7 +44,7 @@ pub struct Report {
 }
 
 // A refusal number, a step's report, or how many copies were cut where a link was set.
-#[derive(Drop)]
+#[derive(Clone, Copy)]
 pub enum Answer {
     Refused(u8),
     Stepped(Report),
@@ -50,7 +52,7 @@ pub enum Answer {
 }
 
 // The answer, the head's next nonce, and how many copies are then in flight.
-#[derive(Drop)]
+#[derive(Clone, Copy)]
 pub struct Turned {
     pub answer: Answer,
     pub nonce: u32,

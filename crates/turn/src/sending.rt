@@ -13,7 +13,7 @@ use rules::masks::has_port;
 use rules::{Arrival, Send, Sending, Verdict, sending_of};
 
 // How many copies are in flight, the hosts that received, and how many copies were placed and lost.
-#[derive(Drop)]
+#[derive(Clone, Copy)]
 pub struct Sent {
     pub flying: usize,
     pub received: u32,

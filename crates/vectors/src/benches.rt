@@ -12,46 +12,46 @@ use network::Network;
 use seat::Seat;
 use turn::{Answer, Report};
 
-#[derive(Drop)]
+#[derive(Clone, Copy)]
 struct SeatRead {
     place: usize,
     seat: Seat,
     next: usize,
 }
 
-#[derive(Drop)]
+#[derive(Clone, Copy)]
 struct SeatsRead {
     seats: [Seat; Network::SWITCHES],
     next: usize,
 }
 
-#[derive(Drop)]
+#[derive(Clone, Copy)]
 struct CopyRead {
     place: usize,
     copy: Copy,
     next: usize,
 }
 
-#[derive(Drop)]
+#[derive(Clone, Copy)]
 struct CopiesRead {
     copies: [Copy; Copy::MOST],
     flying: usize,
     next: usize,
 }
 
-#[derive(Drop)]
+#[derive(Clone, Copy)]
 struct BenchRead {
     bench: Bench,
     next: usize,
 }
 
-#[derive(Drop)]
+#[derive(Clone, Copy)]
 struct CountersRead {
     counters: Counters,
     next: usize,
 }
 
-#[derive(Drop)]
+#[derive(Clone, Copy)]
 struct EventRead {
     event: Event,
     next: usize,

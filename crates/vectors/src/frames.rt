@@ -3,7 +3,7 @@ use crate::print::Row;
 use crate::{print, token};
 use frame::{Header, Stripping, Tagging};
 
-#[derive(Drop)]
+#[derive(Clone, Copy)]
 pub(crate) struct HeaderRead {
     pub header: Header,
     pub next: usize,

@@ -6,13 +6,13 @@ use head::{Answer, Stepped, Switch};
 use rules::{Report, Setup, Verdict};
 use table::Table;
 
-#[derive(Drop)]
+#[derive(Clone, Copy)]
 pub(crate) struct HeadRead {
     pub switch: Switch,
     pub next: usize,
 }
 
-#[derive(Drop)]
+#[derive(Clone, Copy)]
 struct SetupRead {
     setup: Setup,
     nonce: u32,

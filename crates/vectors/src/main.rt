@@ -4,6 +4,8 @@
 // The one idea: reading and printing take every place and need no premise. A token that can't be
 // read ends at a place that no line has, and a row that is full is written out. So each call is read
 // whole, made, and printed, and only a line that was read to its end is answered.
+#![tactic(auto)]
+
 ghost use Rattle.std.specs.Prelude.{◌≤◌, length};
 
 mod benches;
@@ -21,7 +23,7 @@ const INPUT: usize = 262_144;
 const STANDARD_INPUT: i32 = 0;
 
 // What was read and isn't answered yet is the input from a place on up to another.
-#[derive(Drop)]
+#[derive(Clone, Copy)]
 struct Places {
     from: usize,
     end: usize,

@@ -12,7 +12,7 @@ const ROW: usize = 192;
 
 const PIECE: usize = 10;
 
-#[derive(Drop)]
+#[derive(Clone, Copy)]
 pub(crate) struct Row {
     bytes: [u8; ROW],
     long: usize,

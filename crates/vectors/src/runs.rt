@@ -10,7 +10,7 @@ use turn::Answer;
 // An event's line is shorter.
 const LINE: usize = 40;
 
-#[derive(Drop)]
+#[derive(Clone, Copy)]
 struct Running {
     bench: Bench,
     counters: Counters,

@@ -3,13 +3,13 @@ use crate::print::Row;
 use crate::{print, token};
 use network::{Answer, Host, Link, Network, Port, Switch};
 
-#[derive(Drop)]
+#[derive(Clone, Copy)]
 pub(crate) struct NetworkRead {
     pub network: Network,
     pub next: usize,
 }
 
-#[derive(Drop)]
+#[derive(Clone, Copy)]
 struct PortRead {
     port: Port,
     next: usize,

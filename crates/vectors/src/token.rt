@@ -17,21 +17,21 @@ pub(crate) const INPUT: usize = 60_100;
 
 const MOST_DIGITS: usize = 16;
 
-#[derive(Drop)]
+#[derive(Clone, Copy)]
 pub(crate) struct Value {
     pub value: u64,
     pub next: usize,
 }
 
 // How many bytes were read into a buffer.
-#[derive(Drop)]
+#[derive(Clone, Copy)]
 pub(crate) struct Length {
     pub count: usize,
     pub next: usize,
 }
 
 // Byte i of an output is fill + i before the call.
-#[derive(Drop)]
+#[derive(Clone, Copy)]
 pub(crate) struct Buffer {
     pub length: usize,
     pub fill: u8,

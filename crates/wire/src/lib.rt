@@ -5,6 +5,8 @@
 // Both functions take every place: what isn't there isn't read, and what doesn't fit isn't put.
 // The reader is one loop over the width, so that its law is one; the compiler unrolls it where a
 // caller names the width.
+#![tactic(auto)]
+
 ghost use Rattle.std.specs.Prelude.{◌≡◌, ◌<◌, ◌^◌, min, length};
 ghost use Rattle.wire.specs.Wire.{number, part, put_in};
 ghost use Rattle.wire.specs.Address.{is_source};
