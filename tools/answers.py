@@ -18,7 +18,8 @@ TOKEN = re.compile(r"[^\s()\[\]{},;.]+")
 
 
 def plain(name):
-    return name.replace("-", "_").removesuffix("_lem")
+    name = name.strip("«»").replace("-", "_").removesuffix("_lem").removeprefix("Is")
+    return re.sub(r"_arg\d*$", "", name[:1].lower() + name[1:])
 
 
 class Function:
@@ -47,19 +48,32 @@ class Function:
             place = self.places[place][1] if place in self.places else None
         return place
 
+    def way(self, place):
+        found = [place]
+        while self.places[found[-1]][1]:
+            found.append(self.places[found[-1]][1])
+        return found
+
     def path(self, place, name, befores, step, rest):
         """The path of a fact today, or None."""
         at = self.up(place, befores)
         rest = [r for r in rest.split(".") if r]
-        if at is None:
-            return None
         if step in AT_START:
             return ".".join(["c", step, *rest])
+        if at is None:
+            return None
         old, new = self.places[at][2]
         if step == "before":
             return None
         if plain(old) != plain(step):
-            self.said(f"{name}{'.before' * befores}.{step}: the step is {old}")
+            # Where today's places are others, the nearest of that name on the way here.
+            way = self.way(place)
+            near = [i for i, p in enumerate(way) if plain(self.places[p][2][0]) == plain(step)]
+            if near:
+                at = way[min(near, key=lambda i: abs(i - befores))]
+                old, new = self.places[at][2]
+            else:
+                self.said(f"{name}{'.before' * befores}.{step}: the step is {old}")
         for listed in self.arms.values():
             for field, of, tail in (listed[2] if listed else []):
                 if of == old and tail and rest[: len(tail)] == tail and self.leads(at, old, listed):
@@ -94,14 +108,12 @@ def turned(body, function, place, said):
     """A body, with today's paths."""
     alias = {"c": 0}
     while True:
-        m = re.search(r"\blet (\w+) = c((?:\.before)+) in\s*", body)
+        m = re.search(rf"\blet (\w+) = ({'|'.join(alias)})((?:\.before)+) in\s*", body)
         if not m:
             break
-        alias[m.group(1)] = m.group(2).count(".before")
+        alias[m.group(1)] = alias[m.group(2)] + m.group(3).count(".before")
         body = body[: m.start()] + body[m.end() :]
-    m = re.search(r"\blet (\w+) = c((?:\.before)*)\.args in\s*", body)
-    if m:
-        body = body[: m.start()] + f"let {m.group(1)} = c.args in " + body[m.end() :]
+    body = re.sub(r"\bc(?:\.before)*\.(args|requires|ranges)\b", r"c.\1", body)
 
     def one(m):
         name, befores, step, rest = m.groups()

@@ -1,0 +1,13 @@
+use Rattle.cabling.proofs.Plugging.{plugged_starts, plugged_ends, host_next}
+use native.Mathlib.Omega.{arith}
+use Prim.Native.Nat.{◌-◌}
+use Rattle.cabling.proofs.plug_hosts.Goals as goal
+
+pub loop-i-init : goal.loop-i-init
+loop-i-init c = plugged_starts
+
+pub loop-i-preserved : goal.loop-i-preserved
+loop-i-preserved c = host_next _ c.loop-i.invariant (omega arith) c.mark.ensures
+
+pub returns : goal.returns
+returns c = plugged_ends c.loop-i.invariant (omega arith)

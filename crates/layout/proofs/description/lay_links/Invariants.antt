@@ -1,0 +1,12 @@
+-- Link after link, four bytes are put behind those of the links before it.
+use Prim.Native.Nat.{◌-◌, ◌≤◌}
+use Rattle.network.specs.Network.{no_link}
+use Rattle.layout.specs.Layout.{link_bytes, links_at}
+use Rattle.layout.proofs.Loops.{Rows}
+use Rattle.layout.proofs.description.lay_links.Given as goal
+
+abbrev pub invariant-loop-i : goal.invariant-loop-i
+invariant-loop-i l = (l.i ≤ 64) × Rows link_bytes 4 no_link l.links l.initial.bytes links_at l.i l.bytes
+
+abbrev pub decreases-loop-i : goal.decreases-loop-i
+decreases-loop-i l = 64 - l.i

@@ -1,0 +1,18 @@
+-- The parts are put one behind the other, and fill each array.
+use Rattle.layout.specs.Layout.{SizedBench}
+use Rattle.layout.proofs.Wholes.{bench_bytes_laid, bench_wides_laid}
+use Rattle.layout.proofs.lay_bench.Goals as goal
+
+pub returns : goal.returns
+returns c =
+    let states = c.lay_states.ensures in
+    let seats = c.lay_seats.ensures in
+    let copies = c.lay_copies.ensures in
+    let sized : SizedBench c.args.b = record { up = states.1; seats = seats.sized; copies = copies.1 } in
+    record {
+      bytes = bench_bytes_laid sized c.args.bytes.now c.requires.bytes states.0 seats.bytes;
+      masks = seats.masks;
+      words = seats.words;
+      wides = bench_wides_laid sized c.args.wides.now c.requires.wides seats.wides copies.0 c.put_wides.ensures;
+      sized = sized;
+    }

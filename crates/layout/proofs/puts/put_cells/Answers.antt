@@ -1,0 +1,12 @@
+-- Cells that fit are put.
+use mathlib.Core.Path.{◌≡◌, ◌∙◌}
+use native.Mathlib.Omega.{arith}
+use lib.ListN.{length}
+use Rattle.wire.proofs.Laws.{put_fits}
+use borrow.Author.Rules.{rules}
+use Rattle.layout.proofs.puts.put_cells.Goals as goal
+
+pub returns : goal.returns
+returns c =
+    let long : length c.args.t1 ≡ 640 = search rules in
+ record { bytes = c.put_at.ensures ∙ put_fits _ _ _ (omega arith); long = long }

@@ -1,0 +1,9 @@
+-- Each turn puts the lowest digit that is left right before those that are put.
+use Rattle.lines.proofs.Digits.{Putting}
+use Rattle.lines.proofs.put_digits.Given as goal
+
+abbrev pub invariant-loop-i : goal.invariant-loop-i
+invariant-loop-i l = Putting l.initial.out l.out l.at l.n l.base l.count l.left l.i
+
+abbrev pub decreases-loop-i : goal.decreases-loop-i
+decreases-loop-i l = l.i

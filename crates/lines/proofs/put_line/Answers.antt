@@ -1,0 +1,45 @@
+-- Four parts are put one behind the other, and the room for all is room for each.
+use Rattle.lines.proofs.Parts.{front_room, verdict_room, hosts_room, ending_room, line_put}
+use Rattle.lines.proofs.put_line.Goals as goal
+
+pub put_field-a-requires : goal.put_field-a-requires
+put_field-a-requires c =
+    let a = c.args in
+    front_room a.out.now a.at a.l c.requires
+
+pub put_field-b-requires : goal.put_field-b-requires
+put_field-b-requires c =
+    let a = c.args in
+    let p = c.put_field-a.ensures in
+    verdict_room a.out.now a.at a.l c.requires (record { ends = p.0; output = p.1 })
+
+pub put_marked-c-requires : goal.put_marked-c-requires
+put_marked-c-requires c =
+    let a = c.args in
+    let p = c.put_field-a.ensures in
+    let q = c.put_field-b.ensures in
+    hosts_room a.out.now a.at a.l c.requires
+    (record { ends = p.0; output = p.1 }) (record { ends = q.0; output = q.1 })
+
+pub put_ending-requires : goal.put_ending-requires
+put_ending-requires c =
+    let a = c.args in
+    let p = c.put_field-a.ensures in
+    let q = c.put_field-b.ensures in
+    let r = c.put_marked-c.ensures in
+    ending_room a.out.now a.at a.l
+    c.requires
+    (record { ends = p.0; output = p.1 }) (record { ends = q.0; output = q.1 }) (record { ends = r.0; output = r.1 })
+
+pub returns : goal.returns
+returns c =
+    let a = c.args in
+    let p = c.put_field-a.ensures in
+    let q = c.put_field-b.ensures in
+    let r = c.put_marked-c.ensures in
+    let s = c.put_ending.ensures in
+    let all = line_put a.out.now a.at a.l
+    c.requires
+    (record { ends = p.0; output = p.1 }) (record { ends = q.0; output = q.1 }) (record { ends = r.0; output = r.1 })
+    (record { ends = s.0; output = s.1 }) in
+ record { end = all.ends; output = all.output }

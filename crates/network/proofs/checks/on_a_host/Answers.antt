@@ -1,0 +1,25 @@
+use Rattle.network.proofs.Lists.{sought_starts, sought_next, sought_found, sought_behind, sought_ends}
+use Prim.Native.Nat.{◌-◌}
+use lib.ListN.{length}
+use native.Mathlib.Omega.{arith}
+use borrow.Author.Rules.{rules}
+use borrow.Author.Tests.{eq-eqb, ne_eqb}
+use mathlib.Core.Path.{◌≡◌, refl, sym, ◌∙◌}
+use Rattle.network.proofs.checks.on_a_host.Goals as goal
+
+pub loop-i-init : goal.loop-i-init
+loop-i-init c = sought_starts
+
+pub returns-then-k-ge-HOSTS : goal.returns-then-k-ge-HOSTS
+returns-then-k-ge-HOSTS c =
+    let long : length c.args.t1 ≡ 32 = search rules in
+    sought_behind c.loop-i.invariant (omega arith) (omega arith) refl
+
+pub returns-then-place-at : goal.returns-then-place-at
+returns-then-place-at c = sought_found c.loop-i.invariant (omega arith) refl (eq-eqb _ _ (sym c.place.ensures ∙ c.if-place-at.true))
+
+pub loop-i-preserved : goal.loop-i-preserved
+loop-i-preserved c = sought_next c.loop-i.invariant (omega arith) refl (ne_eqb _ _ (λ e. c.if-place-at.false (c.place.ensures ∙ e)))
+
+pub returns : goal.returns
+returns c = sought_ends c.loop-i.invariant (omega arith)

@@ -1,0 +1,12 @@
+-- Behind the array's end the element is the unused one, as `get_or` has it.
+use Rattle.network.specs.Network.{no_switch}
+use lib.ListN.{length, get_or-eq_default}
+use mathlib.Core.Path.{◌≡◌, sym}
+use native.Mathlib.Omega.{arith}
+use borrow.Author.Rules.{rules}
+use Rattle.network.proofs.places.nth_switch.Goals as goal
+
+pub returns : goal.returns
+returns c =
+    let long : length c.args.t1 ≡ 16 = search rules in
+    sym (get_or-eq_default c.args.t1 no_switch {n = c.args.i} (omega arith))

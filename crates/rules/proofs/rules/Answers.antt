@@ -1,0 +1,20 @@
+-- Each rule finds table and filter as the one before left them.
+use Rattle.rules.proofs.Cases.{rules_by}
+use Rattle.rules.specs.Rules.{rules}
+use borrow.Author.Tests.{lt-ltb, le-ltb}
+use borrow.Author.Rules.{rules}
+use Rattle.rules.proofs.rules.Goals as goal
+
+pub returns-then-s-h : goal.returns-then-s-h
+unfolding rules
+returns-then-s-h c =
+    let w = c.rule2.ensures in
+    (rw (lt-ltb _ _ c.if-s-h.taken, c.report_of.ensures, ← w.0 _), w.1)
+
+pub returns : goal.returns
+unfolding rules
+returns c =
+    let k = c.learning-full.ensures in
+    let m = c.rule3-asked.ensures in
+    let w = c.forwarding-o.ensures in
+ record { after = rw (le-ltb _ _ c.if-s-h.left, c.report_of-2.ensures) (rules_by _ _ _ _ m.0 m.1.0 m.1.1 k.0 w.0); sized = w.1 }

@@ -1,0 +1,21 @@
+use borrow.Author.Rules.{rules}
+use native.Mathlib.Omega.{arith}
+use Rattle.table.proofs.Marks.{pass_start, pass_next, pass_fails, pass_end, unmarked}
+use Prim.Native.Nat.{◌-◌}
+use mathlib.Core.Path.{sym, ◌∙◌}
+use Rattle.table.proofs.is_well_formed_in.Goals as goal
+
+pub loop-i-init : goal.loop-i-init
+loop-i-init c = pass_start _ _ _ (search rules)
+
+pub slot_fits-requires : goal.slot_fits-requires
+slot_fits-requires c = (search rules, search rules, unmarked c.loop-i.invariant (omega arith) _ c.mark_of-mark.ensures.mark c.requires)
+
+pub loop-i-preserved : goal.loop-i-preserved
+loop-i-preserved c = pass_next c.loop-i.invariant (omega arith) _ c.mark_of-mark.ensures.mark c.mark_of-mark.ensures.within (sym c.slot_fits.ensures ∙ c.if-slot_fits.true)
+
+pub returns-else-slot_fits : goal.returns-else-slot_fits
+returns-else-slot_fits c = pass_fails c.loop-i.invariant (omega arith) (sym c.slot_fits.ensures ∙ c.if-slot_fits.false)
+
+pub returns : goal.returns
+returns c = pass_end c.loop-i.invariant (omega arith)

@@ -1,0 +1,15 @@
+-- While there is room the copy is packed behind the list; else it is counted as lost.
+use Rattle.turn.proofs.Writing.{written_joined, written_none}
+use Rattle.turn.proofs.Outboxes.{placed_there, room_there, lost_there}
+use borrow.Author.Rules.{rules}
+use Rattle.turn.proofs.sending.join.Goals as goal
+
+pub returns-then-s-lt-MOST : goal.returns-then-s-lt-MOST
+returns-then-s-lt-MOST c =
+    let less = c.if-s-lt-MOST.true in
+    let joined = c.join.ensures in
+    (placed_there c.requires less joined, (room_there c.requires less joined, written_joined (search rules) joined))
+
+pub returns : goal.returns
+returns c =
+    (lost_there c.args.c c.requires c.if-s-lt-MOST.false, (search rules, written_none _ _))
