@@ -18,8 +18,12 @@ TOKEN = re.compile(r"[^\s()\[\]{},;.]+")
 
 
 def plain(name):
+    return re.sub(r"_arg\d*$", "", exact(name))
+
+
+def exact(name):
     name = name.strip("«»").replace("-", "_").removesuffix("_lem").removeprefix("Is")
-    return re.sub(r"_arg\d*$", "", name[:1].lower() + name[1:])
+    return name[:1].lower() + name[1:]
 
 
 class Function:
@@ -34,7 +38,12 @@ class Function:
         for n, at in zip(listed["needs"], listed["asked_at"]):
             self.needs.setdefault(plain(n[1]), (n[1], at[0]))
         self.settled = {plain(s) for s in listed["settled"]}
-        self.loops, self.changed, self.asked = listed["loops"], listed["changed"], listed["asked"]
+        self.loops, self.changed = listed["loops"], listed["changed"]
+        self.asked = {new: listed["asked"][old] for old, new in listed["needs"] if old in listed["asked"]}
+        self.args = {}
+        for old, new in listed["args"]:
+            if old.startswith(".args ."):
+                self.args[old[7:]] = new[7:]
 
     def goal(self, need):
         need = plain(need)
@@ -59,16 +68,19 @@ class Function:
         at = self.up(place, befores)
         rest = [r for r in rest.split(".") if r]
         if step in AT_START:
+            if rest and step != "requires":
+                rest[0] = self.args.get(rest[0], rest[0])
             return ".".join(["c", step, *rest])
         if at is None:
             return None
         old, new = self.places[at][2]
         if step == "before":
             return None
-        if plain(old) != plain(step):
+        if exact(old) != exact(step):
             # Where today's places are others, the nearest of that name on the way here.
             way = self.way(place)
-            near = [i for i, p in enumerate(way) if plain(self.places[p][2][0]) == plain(step)]
+            near = [i for i, p in enumerate(way) if exact(self.places[p][2][0]) == exact(step)]
+            near = near or [i for i, p in enumerate(way) if plain(self.places[p][2][0]) == plain(step)]
             if near:
                 at = way[min(near, key=lambda i: abs(i - befores))]
                 old, new = self.places[at][2]
@@ -113,7 +125,6 @@ def turned(body, function, place, said):
             break
         alias[m.group(1)] = alias[m.group(2)] + m.group(3).count(".before")
         body = body[: m.start()] + body[m.end() :]
-    body = re.sub(r"\bc(?:\.before)*\.(args|requires|ranges)\b", r"c.\1", body)
 
     def one(m):
         name, befores, step, rest = m.groups()
@@ -169,7 +180,7 @@ def uses(lines, body, extra):
                 found.append(line)
             continue
         names = [n.strip() for n in m.group(2).split(",")]
-        kept = [n for n in names if any(p in tokens or p in body for p in ([n] if "◌" not in n else [x for x in n.split("◌") if x]))]
+        kept = [n for n in names if any(p in tokens or ("◌" in n and p in body) for p in ([n.split(" as ")[-1]] if "◌" not in n else [x for x in n.split("◌") if x]))]
         if kept:
             found.append(f"use {m.group(1)}.{{{', '.join(kept)}}}")
     return found + extra

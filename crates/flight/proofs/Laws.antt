@@ -68,7 +68,7 @@ module _ {A : Type 0} where
   without_member {c} k xs m = ⊎_elim (λ l. take_member k xs l) (λ r. drop_member (k + 1) xs r) (Memᴰ.append_cases (take k xs) m)
     where
       take_member : (k : ℕ) (xs : List A) → Memᴰ c (take k xs) → Memᴰ c xs
-      take_member zero xs m = absurd (Memᴰ.not_nil m)
+      take_member zero xs m = absurd (Memᴰ.not-nil m)
       take_member (suc k) [] m = m
       take_member (suc k) (x ∷ xs) m = ⊎_elim (λ e. Memᴰ.head e) (λ r. Memᴰ.tail (take_member k xs r)) (Memᴰ.cases_cons m)
 
@@ -89,7 +89,7 @@ unfolding without
 without_or_at {c} k xs m = rw add-one (go k xs m)
   where
     go : (k : ℕ) (xs : List Copy) → Memᴰ c xs → (c ≡ get_or xs k no_copy) ⊎ Memᴰ c (take k xs ++ drop (suc k) xs)
-    go k [] m = absurd (Memᴰ.not_nil m)
+    go k [] m = absurd (Memᴰ.not-nil m)
     go zero (x ∷ xs) m = Memᴰ.cases_cons m
     go (suc k) (x ∷ xs) m = ⊎_elim (λ e. inr (Memᴰ.head e)) (λ r. ⊎_elim (λ e. inl e) (λ n. inr (Memᴰ.tail n)) (go k xs r)) (Memᴰ.cases_cons m)
 
@@ -133,7 +133,7 @@ module _ {c : Copy} (link : ℕ) where
   -- a copy left was there, and is on another link
   pub spared_member : (xs : List Copy) → Memᴰ c (spared link xs) → Memᴰ c xs × (c.link ≢ link)
   unfolding spared
-  spared_member [] m = absurd (Memᴰ.not_nil m)
+  spared_member [] m = absurd (Memᴰ.not-nil m)
   spared_member (x ∷ xs) m = go (eqb x.link link) refl (λ r. spared_member xs r) m
     where
       go : (b : Bool) → eqb x.link link ≡ b → (Memᴰ c (spared link xs) → Memᴰ c xs × (c.link ≢ link)) → Memᴰ c (cond b (spared link xs) (x ∷ spared link xs)) → Memᴰ c (x ∷ xs) × (c.link ≢ link)
@@ -157,7 +157,7 @@ module _ {c : Copy} (link : ℕ) where
 module _ {P : Copy → Type 0} where
   -- of each of none
   pub all_none : All P []
-  all_none = record { each = λ c m. absurd (Memᴰ.not_nil m) }
+  all_none = record { each = λ c m. absurd (Memᴰ.not-nil m) }
 
   -- of one
   pub all_one : {c : Copy} → P c → All P (c ∷ [])

@@ -60,7 +60,7 @@ not_false_true false n = absurd (n refl)
 -- one passes a test exactly if one is as the test's words say
 some_words : {A : Type 0} {test : A → Bool} {So : A → Type 0} (xs : List A) → ((x : A) → Memᴰ x xs → (test x ≡ true) ↔ So x) → (any test xs ≡ true) ↔ Some So xs
 unfolding any
-some_words [] h = (λ e. absurd (false≢true e), λ s. absurd (Memᴰ.not_nil s.there))
+some_words [] h = (λ e. absurd (false≢true e), λ s. absurd (Memᴰ.not-nil s.there))
 some_words {A} {test} {So} (x ∷ xs) h =
     let one = either (h x (Memᴰ.head refl)) (some_words {test = test} {So = So} xs (λ y m. h y (Memᴰ.tail m))) in (
       λ e. ⊎_elim (λ p. record { one = x; there = Memᴰ.head refl; so = p }) (λ s. record { one = s.one; there = Memᴰ.tail s.there; so = s.so }) (one.0 e),
@@ -288,15 +288,15 @@ record_bytes kind body h = by_kind (eqb kind 1) (eqb kind 2)
 
 scan_bytes : (turns at : ℕ) (b : List ℕ) → AreBytes b → AllInBytes (scan turns at b).found
 unfolding scan
-scan_bytes zero at b h = λ r m. absurd (Memᴰ.not_nil m)
+scan_bytes zero at b h = λ r m. absurd (Memᴰ.not-nil m)
 scan_bytes (suc turns) at b h = by_start (start_of b) refl (λ r. scan_bytes turns (at + length (encode r)) (drop (length (encode r)) b) (bytes_drop (length (encode r)) b h))
   where
     behind : Record → Scan
     behind r = scan turns (at + length (encode r)) (drop (length (encode r)) b)
 
     by_start : (p : Start) → start_of b ≡ p → ((r : Record) → AllInBytes (behind r).found) → AllInBytes (scanned p at behind).found
-    by_start End q go r m = absurd (Memᴰ.not_nil m)
-    by_start Bad q go r m = absurd (Memᴰ.not_nil m)
+    by_start End q go r m = absurd (Memᴰ.not-nil m)
+    by_start Bad q go r m = absurd (Memᴰ.not-nil m)
     by_start (Got s) q go r m =
         let here : InBytes s = rw (starts b s q).is (record_bytes (kind_in b) (body_in b) (bytes_drop 3 b h)) in
         ⊎_elim (λ (e : r ≡ s). rw e here) (λ n. go s r n) (Memᴰ.cases_cons m)

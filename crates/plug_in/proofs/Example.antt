@@ -133,7 +133,7 @@ fresh_nowhere n {x} source =
     record {
       entries = λ k h held. (absent_iff (empty_well_formed 0).sized x).0 (empty_absent x) (subst (λ (s : Seat). Holds s.switch.table x) (fresh_seat_lem n k h) held);
       records = λ k h named. zeros_name_none seat.cell_bytes (source_some source.below source.nonzero) (subst (λ (s : Seat). Names width (bytes_of 6 x) s.cells) (fresh_seat_lem n k h) named);
-      copies = record { each = λ c m. absurd (Memᴰ.not_nil m) };
+      copies = record { each = λ c m. absurd (Memᴰ.not-nil m) };
     }
 
 in_run : InRun fresh
@@ -181,7 +181,7 @@ plugged_in =
 
 quiet : NoneFlies sender end.bench
 unfolding bench.in_flight
-quiet w = Memᴰ.not_nil (subst (λ n. Memᴰ w.copy (take n end.bench.copies)) computed.quiet w.there)
+quiet w = Memᴰ.not-nil (subst (λ n. Memᴰ w.copy (take n end.bench.copies)) computed.quiet w.there)
 
 joined : (k : ℕ) → k < 3 → JoinedTo end.bench home k
 joined zero h = subst (JoinedTo end.bench home) computed.first_home words.here

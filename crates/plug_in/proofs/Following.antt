@@ -65,8 +65,8 @@ module _ {A x nonce : ℕ} {s : State} {h : List Happened} (v : Flowing s.bench.
       ends e = (
         k ∷ [],
         words.home r (subst (λ (p : Port). plug_of s.bench.network p.switch p.number ≡ OfHost A) (sym e) (host_plugged s.bench.network v.fine A v.there)),
-        (Memᴰ.not_nil, tt),
-        λ j m. ⊎_elim (λ q. omega (arith, ap hops q)) (λ n. absurd (Memᴰ.not_nil n)) (Memᴰ.cases_cons m),
+        (Memᴰ.not-nil, tt),
+        λ j m. ⊎_elim (λ q. omega (arith, ap hops q)) (λ n. absurd (Memᴰ.not-nil n)) (Memᴰ.cases_cons m),
       )
 
       on : ((t : ℕ) → hops t < fuel → HasRecord x s.bench t → (ks : List ℕ) × Way A x s.bench t ks × NoneTwice ks × ((j : ℕ) → Memᴰ j ks → hops j ≤ hops t))

@@ -100,7 +100,7 @@ unfolding fresh_bench in_flight fresh_seat
 fresh_named n fine =
     record {
       entries = λ k h x held. absurd ((absent_iff (empty_well_formed 0).sized x).0 (empty_absent x) (subst (λ (s : Seat). Holds s.switch.table x) (fresh_seat_lem n k h) held));
-      sources = record { each = λ c m. absurd (Memᴰ.not_nil m) };
+      sources = record { each = λ c m. absurd (Memᴰ.not-nil m) };
     }
 
 -- ---- The same step, of a bench and an answer that are equal

@@ -44,15 +44,15 @@ module _ (plug : ℕ → Plug) (a : Arrival) (mask : ℕ) (h : Header) where
   port_copy p {c} = by_port (names mask p) refl (plug p) refl
     where
       by_port : (b : Bool) → names mask p ≡ b → (q : Plug) → plug p ≡ q → Memᴰ c (cond b (copy_on q a h) []) → WentOut plug a mask h c
-      by_port false e q d m = absurd (Memᴰ.not_nil m)
-      by_port true e Open d m = absurd (Memᴰ.not_nil m)
-      by_port true e (Host i) d m = absurd (Memᴰ.not_nil m)
+      by_port false e q d m = absurd (Memᴰ.not-nil m)
+      by_port true e Open d m = absurd (Memᴰ.not-nil m)
+      by_port true e (Host i) d m = absurd (Memᴰ.not-nil m)
       by_port true e (Link f) d m = record { port = p; named = e; end = f; plugged = d; is = Memᴰ.eq_of_singleton m }
 
   -- each is of a port that the mask names
   new_went : (n p : ℕ) {c : Copy} → Memᴰ c (copies_from plug a mask h n p) → WentOut plug a mask h c
   unfolding copies_from
-  new_went zero p m = absurd (Memᴰ.not_nil m)
+  new_went zero p m = absurd (Memᴰ.not-nil m)
   new_went (suc n) p m = ⊎_elim (port_copy p) (new_went n (p + 1)) (Memᴰ.append_cases (cond (names mask p) (copy_on (plug p) a h) []) m)
 
   -- a port with a link that the mask names has a copy
@@ -88,7 +88,7 @@ module _ (plug : ℕ → Plug) (a : Arrival) (s : Sending) (rest : List Copy) wh
   new_out {c} m = ⊎_elim inl (λ n. inr (by_sending s (member_take (room_in rest) (new_copies plug a s) n))) (Memᴰ.append_cases rest (subst (Memᴰ c) adds.flying m))
     where
       by_sending : (s : Sending) → Memᴰ c (new_copies plug a s) → WentOut plug a (sent_by s).mask (sent_by s).header c
-      by_sending Nothing m = absurd (Memᴰ.not_nil m)
+      by_sending Nothing m = absurd (Memᴰ.not-nil m)
       by_sending (Copies s) m = new_went plug a s.mask s.header most_ports 0 m
 
   -- and if none is lost, one goes over each such link

@@ -164,7 +164,7 @@ none_flies b q w = go (bench.in_flight b) q w.there
     and_true false z e = (refl, e)
 
     go : (cs : List Copy) → none_flying cs ≡ true → Memᴰ w.copy cs → ⊥
-    go [] q m = Memᴰ.not_nil m
+    go [] q m = Memᴰ.not-nil m
     go (c ∷ cs) q m =
         let p = and_true (eqb c.source 2) (none_flying cs) q in
         ⊎_elim (λ e. true≢false (sym (eq-eqb c.source 2 (sym (ap (λ (d : Copy). d.source) e) ∙ w.mine)) ∙ p.0)) (go cs p.1) (Memᴰ.cases_cons m)

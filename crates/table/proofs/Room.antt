@@ -14,14 +14,14 @@ strike a (b ∷ m) = ite (ℕ_discrete a b) m (b ∷ strike a m)
 
 strike_length : (a : ℕ) (m : List ℕ) → Memᴰ a m → suc (length (strike a m)) ≡ length m
 unfolding strike
-strike_length a [] k = absurd (mathlib.Core.List.Memᴰ.not_nil k)
+strike_length a [] k = absurd (mathlib.Core.List.Memᴰ.not-nil k)
 strike_length a (b ∷ m) k = by_cases (ℕ_discrete a b)
     (λ e. rw (if_pos (ℕ_discrete a b) e m (b ∷ strike a m)))
     (λ d. rw (if_neg (ℕ_discrete a b) d m (b ∷ strike a m)) (ap suc (⊎_elim (λ e. absurd (d e)) (λ r. strike_length a m r) (mathlib.Core.List.Memᴰ.cases_cons k))))
 
 strike_keeps : (a : ℕ) (m : List ℕ) {x : ℕ} → Memᴰ x m → x ≢ a → Memᴰ x (strike a m)
 unfolding strike
-strike_keeps a [] k n = absurd (mathlib.Core.List.Memᴰ.not_nil k)
+strike_keeps a [] k n = absurd (mathlib.Core.List.Memᴰ.not-nil k)
 strike_keeps a (b ∷ m) k n = by_cases (ℕ_discrete a b)
     (λ e. rw (if_pos (ℕ_discrete a b) e m (b ∷ strike a m)) (⊎_elim (λ q. absurd (n (q ∙ sym e))) (λ r. r) (mathlib.Core.List.Memᴰ.cases_cons k)))
     (λ d. rw (if_neg (ℕ_discrete a b) d m (b ∷ strike a m)) (⊎_elim (λ q. mathlib.Core.List.Memᴰ.head q) (λ r. mathlib.Core.List.Memᴰ.tail (strike_keeps a m r n)) (mathlib.Core.List.Memᴰ.cases_cons k)))

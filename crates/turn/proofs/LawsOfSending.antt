@@ -130,17 +130,17 @@ module _ (plug : ℕ → Plug) (a : Arrival) (mask : ℕ) (h : Header) where
   new_at p c = by_name (names mask p) refl
     where
       by_plug : (q : Plug) → plug p ≡ q → names mask p ≡ true → Memᴰ c (copy_on q a h) → NewFor plug a mask h c
-      by_plug Open e t m = absurd (Memᴰ.not_nil m)
-      by_plug (Host i) e t m = absurd (Memᴰ.not_nil m)
+      by_plug Open e t m = absurd (Memᴰ.not-nil m)
+      by_plug (Host i) e t m = absurd (Memᴰ.not-nil m)
       by_plug (Link f) e t m = record { port = p; end = f; named = t; plugged = e; copy = Memᴰ.eq_of_singleton m }
 
       by_name : (b : Bool) → names mask p ≡ b → Memᴰ c (cond b (copy_on (plug p) a h) []) → NewFor plug a mask h c
       by_name true t m = by_plug (plug p) refl t m
-      by_name false t m = absurd (Memᴰ.not_nil m)
+      by_name false t m = absurd (Memᴰ.not-nil m)
 
   new_from : (n p : ℕ) (c : Copy) → Memᴰ c (copies_from plug a mask h n p) → NewFor plug a mask h c
   unfolding copies_from
-  new_from zero p c m = absurd (Memᴰ.not_nil m)
+  new_from zero p c m = absurd (Memᴰ.not-nil m)
   new_from (suc n) p c m = ⊎_elim (new_at p c) (new_from n (p + 1) c) (Memᴰ.append_cases (cond (names mask p) (copy_on (plug p) a h) []) m)
 
   -- at most one for each port
@@ -169,7 +169,7 @@ new_few plug a (Copies s) = few_from plug a s.mask s.header most_ports 0
 
 pub new_for : (plug : ℕ → Plug) (a : Arrival) (g : Sending) (c : Copy) → Memᴰ c (new_copies plug a g) → (s : Send) × (g ≡ Copies s) × NewFor plug a s.mask s.header c
 unfolding new_copies
-new_for plug a Nothing c m = absurd (Memᴰ.not_nil m)
+new_for plug a Nothing c m = absurd (Memᴰ.not-nil m)
 new_for plug a (Copies s) c m = (s, refl, new_from plug a s.mask s.header most_ports 0 c m)
 
 -- ---- The hosts that received

@@ -44,7 +44,7 @@ place_in (x ∷ xs) zero h = Memᴰ.head refl
 place_in (x ∷ xs) (suc i) h = Memᴰ.tail (place_in xs i (le_of_suc-le-suc h))
 
 take_in : (k : ℕ) (xs : List Copy) {c : Copy} → Memᴰ c (take k xs) → Memᴰ c xs
-take_in zero xs m = absurd (Memᴰ.not_nil m)
+take_in zero xs m = absurd (Memᴰ.not-nil m)
 take_in (suc k) [] m = m
 take_in (suc k) (x ∷ xs) m = ⊎_elim (λ e. Memᴰ.head e) (λ r. Memᴰ.tail (take_in k xs r)) (Memᴰ.cases_cons m)
 
@@ -141,7 +141,7 @@ module _ (n : Network) (fine : network_fault n ≡ 0) (up : List Bool) (k : ℕ)
 
 spared_in : (l : ℕ) (xs : List Copy) {c : Copy} → Memᴰ c (spared l xs) → Memᴰ c xs × (c.link ≢ l)
 unfolding spared
-spared_in l [] m = absurd (Memᴰ.not_nil m)
+spared_in l [] m = absurd (Memᴰ.not-nil m)
 spared_in l (x ∷ xs) {c} m = by_link (eqb x.link l) refl m (λ r. spared_in l xs r)
   where
     by_link : (b : Bool) → eqb x.link l ≡ b → Memᴰ c (cond b (spared l xs) (x ∷ spared l xs)) → (Memᴰ c (spared l xs) → Memᴰ c xs × (c.link ≢ l)) → Memᴰ c (x ∷ xs) × (c.link ≢ l)

@@ -8,4 +8,4 @@ use borrow.Author.Rules.{rules}
 use Rattle.bench.proofs.head_at.Goals as goal
 
 pub returns : goal.returns
-returns c = let long : length c.args.t1 ≡ 16 = search rules in same_there c.args.t1 c.args.k _ no_seat (omega arith)
+returns c = let long : length c.args.seats ≡ 16 = search rules in same_there c.args.seats c.args.k _ no_seat (omega arith)

@@ -13,7 +13,7 @@ overflow_cast-result-in-Stepped-2 c = let h : c.in-Stepped.r.received < 2 ^ 32 =
 
 pub returns-in-Refused : goal.returns-in-Refused
 unfolding adds
-returns-in-Refused c = (c.zero.ensures ∙ simp c.in-Refused.is, rw c.zero.ensures (search rules))
+returns-in-Refused c = record { adds = c.zero.ensures ∙ simp c.in-Refused.is; small = rw c.zero.ensures (search rules) }
 
 pub returns-in-Stepped : goal.returns-in-Stepped
 unfolding adds
@@ -33,4 +33,4 @@ returns-in-Stepped c =
 
 pub returns-in-Linked : goal.returns-in-Linked
 unfolding adds
-returns-in-Linked c = (simp c.in-Linked.is, search rules)
+returns-in-Linked c = record { adds = simp c.in-Linked.is; small = search rules }

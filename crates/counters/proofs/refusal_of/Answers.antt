@@ -6,7 +6,7 @@ use Rattle.counters.proofs.Refusing.{bench_out, counters_out, in_shape_own, late
 use Rattle.counters.proofs.refusal_of.Goals as goal
 
 pub returns-then-c-ge-MOST_EVENTS : goal.returns-then-c-ge-MOST_EVENTS
-returns-then-c-ge-MOST_EVENTS c = (sym (late _ _ _ c.if-c-ge-MOST_EVENTS.true), λ z. absurd (omega arith))
+returns-then-c-ge-MOST_EVENTS c = record { refusal = sym (late _ _ _ c.if-c-ge-MOST_EVENTS.true); passes = λ z. absurd (omega arith) }
 
 pub fit-requires : goal.fit-requires
 fit-requires c = (c.if-c-ge-MOST_EVENTS.false, (c.is_in_shape.ensures.shape c.if-is_in_shape.true).few)
@@ -25,7 +25,7 @@ returns-then-fit c =
     )
 
 pub returns-then-is_in_shape : goal.returns-then-is_in_shape
-returns-then-is_in_shape c = (sym (counters_out _ _ _ c.if-c-ge-MOST_EVENTS.false (sym c.is_in_shape.ensures.test ∙ c.if-is_in_shape.true) (sym c.fit.ensures ∙ c.if-fit.false)), λ z. absurd (omega arith))
+returns-then-is_in_shape c = record { refusal = sym (counters_out _ _ _ c.if-c-ge-MOST_EVENTS.false (sym c.is_in_shape.ensures.test ∙ c.if-is_in_shape.true) (sym c.fit.ensures ∙ c.if-fit.false)); passes = λ z. absurd (omega arith) }
 
 pub returns : goal.returns
 returns c = record { refusal = sym (bench_out _ _ _ c.if-c-ge-MOST_EVENTS.false (sym c.is_in_shape.ensures.test ∙ c.if-is_in_shape.false)); passes = λ z. absurd (omega arith) }

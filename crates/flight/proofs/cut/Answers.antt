@@ -1,7 +1,7 @@
 use mathlib.Core.Path.{◌≡◌, refl}
 use Prim.Native.Nat.{◌-◌}
 use native.Mathlib.Omega.{arith}
-use lib.ListN.{length, length-set}
+use lib.ListN.{length-set}
 use Rattle.flight.proofs.Sweep.{swept_starts, swept_cut, swept_kept, swept_ends}
 use Rattle.flight.proofs.cut.Goals as goal
 

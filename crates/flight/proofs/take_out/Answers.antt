@@ -1,7 +1,7 @@
 use mathlib.Core.Path.{◌≡◌, refl}
 use Prim.Native.Nat.{◌-◌}
 use native.Mathlib.Omega.{arith}
-use lib.ListN.{length, length-set}
+use lib.ListN.{length-set}
 use Rattle.flight.proofs.Sweep.{moved_starts, moved_next, moved_ends}
 use Rattle.flight.proofs.take_out.Goals as goal
 

@@ -11,7 +11,7 @@ pub loop-i-init : goal.loop-i-init
 loop-i-init c = (omega arith, packed_starts)
 
 pub loop-i-preserved : goal.loop-i-preserved
-loop-i-preserved c = let long : length c.args.t1 ≡ most = search rules in (omega arith, packed_next c.loop-i.invariant.1 (omega arith) (omega arith) c.packed.ensures.words c.packed.ensures.ranged)
+loop-i-preserved c = let long : length c.args.copies ≡ most = search rules in (omega arith, packed_next c.loop-i.invariant.1 (omega arith) (omega arith) c.packed.ensures.words c.packed.ensures.ranged)
 
 pub returns : goal.returns
-returns c = let long : length c.args.t1 ≡ most = search rules in let e : c.loop-i.i ≡ c.args.n = omega arith in packed_ends (rw e at c.loop-i.invariant.1) (omega arith)
+returns c = let long : length c.args.copies ≡ most = search rules in let e : c.loop-i.i ≡ c.args.n = omega arith in packed_ends (rw e at c.loop-i.invariant.1) (omega arith)

@@ -11,7 +11,7 @@ use Rattle.frame.proofs.tag.Goals as goal
 pub returns-then-n-ne0 : goal.returns-then-n-ne0
 returns-then-n-ne0 c =
     let e = c.tag_refusal-n.ensures in
-    (refused_answer e c.if-n-ne0.true _, refused_leaves e c.if-n-ne0.true _ _)
+    record { answer = refused_answer e c.if-n-ne0.true _; output = refused_leaves e c.if-n-ne0.true _ _ }
 
 pub returns : goal.returns
 unfolding tagged
@@ -19,4 +19,4 @@ returns c =
     let e = c.tag_refusal-n.ensures in
     let none = c.if-n-ne0.false in
     let ok = taggable _ _ _ (sym e ∙ none) in
- record { answer = accepted_answer e none _; output = c.write_tagged.ensures ∙ into_room 12 _ _ _ (omega arith) (omega arith) (omega arith) ∙ accepted_leaves e none _ _ }
+    record { answer = accepted_answer e none _; output = c.write_tagged.ensures ∙ into_room 12 _ _ _ (omega arith) (omega arith) (omega arith) ∙ accepted_leaves e none _ _ }

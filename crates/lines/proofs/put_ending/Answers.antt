@@ -27,4 +27,4 @@ returns c =
     let all = put_last a.out.now a.at (decimal a.n) (text "\n")
     c.requires (record { ends = number.0; output = number.1 })
     c.put_at.ensures refl in
- record { end = all.ends; output = all.output }
+    record { end = all.ends; output = all.output }

@@ -42,4 +42,4 @@ returns c =
     c.requires
     (record { ends = p.0; output = p.1 }) (record { ends = q.0; output = q.1 }) (record { ends = r.0; output = r.1 })
     (record { ends = s.0; output = s.1 }) in
- record { end = all.ends; output = all.output }
+    record { end = all.ends; output = all.output }

@@ -9,7 +9,7 @@ pub put_digits-requires : goal.put_digits-requires
 unfolding marked hex8 digits
 put_digits-requires c =
     let a = c.args in
- record { count_in_bounds = first_room a.out.now a.at (hex8 a.received) (text " ") c.requires; le_base = (omega arith, omega arith) }
+    record { count_in_bounds = first_room a.out.now a.at (hex8 a.received) (text " ") c.requires; le_base = (omega arith, omega arith) }
 
 pub returns : goal.returns
 unfolding marked hex8 digits text
@@ -19,4 +19,4 @@ returns c =
     let all = put_last a.out.now a.at (hex8 a.received) (text " ")
     c.requires (record { ends = refl; output = marks })
     c.put_at.ensures refl in
- record { end = all.ends; output = all.output }
+    record { end = all.ends; output = all.output }

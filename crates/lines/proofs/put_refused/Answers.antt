@@ -19,4 +19,4 @@ returns c =
     let number = c.put_ending.ensures in
     let word = put_first a.out.now a.at (text "refused ") (ending a.n) room c.put_at.ensures in
     let all = put_next a.out.now a.at (text "refused ") (ending a.n) room word (record { ends = number.0; output = number.1 }) in
- record { end = all.ends; output = all.output }
+    record { end = all.ends; output = all.output }

@@ -8,4 +8,4 @@ pub returns : goal.returns
 unfolding stop_line text
 returns c =
     let a = c.args in
- record { end = refl; output = c.put_at.ensures ∙ put_fits a.out.now a.at stop_line c.requires }
+    record { end = refl; output = c.put_at.ensures ∙ put_fits a.out.now a.at stop_line c.requires }

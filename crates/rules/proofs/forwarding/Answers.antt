@@ -8,10 +8,10 @@ use Rattle.rules.proofs.forwarding.Goals as goal
 
 pub returns-then-duplicate : goal.returns-then-duplicate
 unfolding forwarding
-returns-then-duplicate c = (rw (c.if-duplicate.true, c.plainly.ensures), c.requires.0)
+returns-then-duplicate c = record { after = rw (c.if-duplicate.true, c.plainly.ensures); sized = c.requires.0 }
 
 pub returns-then-h : goal.returns-then-h
-returns-then-h c = (rw (c.plainly-then-h.ensures, c.all_but.ensures) (sym (forwarding_flood _ _ _ _ _ c.if-duplicate.false c.if-h.true)), c.requires.0)
+returns-then-h c = record { after = rw (c.plainly-then-h.ensures, c.all_but.ensures) (sym (forwarding_flood _ _ _ _ _ c.if-duplicate.false c.if-h.true)); sized = c.requires.0 }
 
 pub returns : goal.returns
 returns c = record { after = c.onward.ensures.after ∙ sym (forwarding_onward _ _ _ _ _ c.if-duplicate.false c.if-h.false); sized = c.onward.ensures.sized }

@@ -4,10 +4,10 @@ use Rattle.rules.proofs.rule10.Goals as goal
 
 pub returns-then-h : goal.returns-then-h
 unfolding rule10
-returns-then-h c = (λ f. rw (c.if-h.true, c.plainly.ensures, c.flagged.ensures, c.only_port.ensures), c.requires.0)
+returns-then-h c = record { after = λ f. rw (c.if-h.true, c.plainly.ensures, c.flagged.ensures, c.only_port.ensures); sized = c.requires.0 }
 
 pub returns : goal.returns
 unfolding rule10
 returns c =
     let e = c.erase_in.ensures in
- record { after = λ f. rw (c.if-h.false, c.plainly-2.ensures, ← e.0); sized = e.1 }
+    record { after = λ f. rw (c.if-h.false, c.plainly-2.ensures, ← e.0); sized = e.1 }

@@ -4,10 +4,10 @@ use Rattle.rules.proofs.rule2.Goals as goal
 
 pub returns-then-h : goal.returns-then-h
 unfolding rule2
-returns-then-h c = (λ f. rw (c.if-h.true, c.plainly.ensures), c.requires)
+returns-then-h c = record { after = λ f. rw (c.if-h.true, c.plainly.ensures); sized = c.requires }
 
 pub returns : goal.returns
 unfolding rule2
 returns c =
     let e = c.erase_in.ensures in
- record { after = λ f. rw (c.if-h.false, c.plainly-2.ensures, ← e.0); sized = e.1 }
+    record { after = λ f. rw (c.if-h.false, c.plainly-2.ensures, ← e.0); sized = e.1 }

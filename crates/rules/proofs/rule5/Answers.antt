@@ -8,8 +8,8 @@ pub returns-then-erases : goal.returns-then-erases
 unfolding rule5
 returns-then-erases c =
     let e = c.erase_in.ensures in
-    (rw (sym c.erases.ensures ∙ c.if-erases.true) e.0, e.1)
+    record { table = rw (sym c.erases.ensures ∙ c.if-erases.true) e.0; sized = e.1 }
 
 pub returns-else-erases : goal.returns-else-erases
 unfolding rule5
-returns-else-erases c = (rw (sym c.erases.ensures ∙ c.if-erases.false), c.requires)
+returns-else-erases c = record { table = rw (sym c.erases.ensures ∙ c.if-erases.false); sized = c.requires }

@@ -8,8 +8,8 @@ pub returns-then-learns : goal.returns-then-learns
 unfolding rule6
 returns-then-learns c =
     let e = c.learn_in.ensures in
-    (rw (sym c.learns.ensures ∙ c.if-learns.true) e.0, e.1)
+    record { learned = rw (sym c.learns.ensures ∙ c.if-learns.true) e.0; sized = e.1 }
 
 pub returns-else-learns : goal.returns-else-learns
 unfolding rule6
-returns-else-learns c = (rw (sym c.learns.ensures ∙ c.if-learns.false), c.requires)
+returns-else-learns c = record { learned = rw (sym c.learns.ensures ∙ c.if-learns.false); sized = c.requires }

@@ -9,14 +9,14 @@ use Rattle.rules.proofs.standing.Goals as goal
 
 pub returns-in_default : goal.returns-in_default
 unfolding standing
-returns-in_default c = (rw (sym (told_apart _ _ c.lookup_in.ensures) ∙ c.in_default.is), tt)
+returns-in_default c = record { entry = rw (sym (told_apart _ _ c.lookup_in.ensures) ∙ c.in_default.is); port = tt }
 
 pub returns-then-has_port : goal.returns-then-has_port
 unfolding standing
 returns-then-has_port c =
     let up = sym c.has_port.ensures ∙ c.if-has_port.true in
-    (rw (sym (told_apart _ _ c.lookup_in.ensures) ∙ c.in-Entry.is, up), names_below 16 _ _ (omega arith) up)
+    record { entry = rw (sym (told_apart _ _ c.lookup_in.ensures) ∙ c.in-Entry.is, up); port = names_below 16 _ _ (omega arith) up }
 
 pub returns-else-has_port : goal.returns-else-has_port
 unfolding standing
-returns-else-has_port c = (rw (sym (told_apart _ _ c.lookup_in.ensures) ∙ c.in-Entry.is, sym c.has_port.ensures ∙ c.if-has_port.false), tt)
+returns-else-has_port c = record { entry = rw (sym (told_apart _ _ c.lookup_in.ensures) ∙ c.in-Entry.is, sym c.has_port.ensures ∙ c.if-has_port.false); port = tt }

@@ -2,7 +2,6 @@
 use mathlib.Core.Path.{ap}
 use Rattle.rules.specs.Rules.{Ruled}
 use Rattle.seat.specs.Seat.{seated, seat_in, step_of}
-use borrow.Author.Rules.{rules}
 use Rattle.seat.proofs.step.Goals as goal
 
 pub returns : goal.returns
@@ -11,4 +10,4 @@ returns c =
     let a = c.args in
     let w = c.rules-report.ensures in
     let s = seat_in a.setup a.nonce a.addresses.now a.ports.now a.hops.now a.cells.now in
- record { steps = rw c.nonce_after.ensures (ap (λ (r : Ruled). seated s a.a.port r) w.0); sized = w.1 }
+    record { steps = rw c.nonce_after.ensures (ap (λ (r : Ruled). seated s a.a.port r) w.0); sized = w.1 }

@@ -7,7 +7,7 @@ use Rattle.table.proofs.erase_in.Goals as goal
 
 pub returns-then-slot-ge-SLOTS : goal.returns-then-slot-ge-SLOTS
 unfolding erase_at erase_of put
-returns-then-slot-ge-SLOTS c = (simp (le-ltb _ _ c.if-slot-ge-SLOTS.true, sym c.slot_of-slot.ensures), c.requires)
+returns-then-slot-ge-SLOTS c = record { erased = simp (le-ltb _ _ c.if-slot-ge-SLOTS.true, sym c.slot_of-slot.ensures); sized = c.requires }
 
 pub returns : goal.returns
 unfolding erase_at erase_of put

@@ -7,7 +7,7 @@ use Rattle.table.proofs.learn_in.Goals as goal
 
 pub returns-then-slot-ge-SLOTS : goal.returns-then-slot-ge-SLOTS
 unfolding learn_at learn_of put
-returns-then-slot-ge-SLOTS c = (simp (le-ltb _ _ c.if-slot-ge-SLOTS.true, sym c.slot_for-slot.ensures), c.requires)
+returns-then-slot-ge-SLOTS c = record { learned = simp (le-ltb _ _ c.if-slot-ge-SLOTS.true, sym c.slot_for-slot.ensures); sized = c.requires }
 
 pub returns : goal.returns
 unfolding learn_at learn_of put

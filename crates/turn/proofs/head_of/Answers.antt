@@ -11,7 +11,7 @@ unfolding head_of
 returns-in-Present c =
     let is = c.in-Present.is in
     let switch = ap (λ (h : Host). h.port.switch) c.host_of-h.ensures in
-    ((λ flying kept none. rw is switch), rw is switch)
+    record { accepted = (λ flying kept none. rw is switch); always = rw is switch }
 
 pub returns-in-Take : goal.returns-in-Take
 unfolding head_of
@@ -19,11 +19,11 @@ returns-in-Take c =
     let is = c.in-Take.is in
     let copy = c.copy_at.ensures in
     let port = c.port_to-port.ensures in
-    ((λ flying kept none. rw is (port_switch c.args.network port (copy_there kept (place_accepted c.args.network flying _ (rw is at none)) copy))), rw is (port_switch c.args.network port (copy_anywhere c.args.words.now c.in-Take.place copy)))
+    record { accepted = (λ flying kept none. rw is (port_switch c.args.network port (copy_there kept (place_accepted c.args.network flying _ (rw is at none)) copy))); always = rw is (port_switch c.args.network port (copy_anywhere c.args.words.now c.in-Take.place copy)) }
 
 pub returns-in-Link : goal.returns-in-Link
 unfolding head_of
 returns-in-Link c =
     let is = c.in-Link.is in
     let switch = ap (λ (p : Port). p.switch) c.port_of-port.ensures in
-    ((λ flying kept none. rw is switch), rw is switch)
+    record { accepted = (λ flying kept none. rw is switch); always = rw is switch }

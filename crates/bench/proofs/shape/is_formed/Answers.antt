@@ -9,4 +9,4 @@ use Rattle.bench.proofs.shape.is_formed.Goals as goal
 pub returns : goal.returns
 returns c =
     let sized : table.Sized c.args.seat.switch.table = search rules in
- record { test = rw c.refusal.ensures; formed = λ t. (refusal_formed c.args.seat sized).0 (sym c.refusal.ensures ∙ eqb-true _ _ t) }
+    record { test = rw c.refusal.ensures; formed = λ t. (refusal_formed c.args.seat sized).0 (sym c.refusal.ensures ∙ eqb-true _ _ t) }

@@ -31,4 +31,4 @@ overflow_add-result-3 c = let v = c.args.self in omega (arith, flag_small v.seco
 
 pub returns : goal.returns
 unfolding pack
-returns c = let v = c.args.self in  record { words = rw (flag_bit v.second, flag_bit v.header.l, flag_bit v.header.f); ranged = record { link = search rules; hc = search rules; nonce = search rules } }
+returns c = let v = c.args.self in record { words = rw (flag_bit v.second, flag_bit v.header.l, flag_bit v.header.f); ranged = record { link = search rules; hc = search rules; nonce = search rules } }

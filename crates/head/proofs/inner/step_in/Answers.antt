@@ -10,11 +10,11 @@ pub returns-then-n-ne0 : goal.returns-then-n-ne0
 returns-then-n-ne0 c =
     let a = c.args in
     let s = switch_of a.s a.nonce (table_of a.addresses.now a.ports.now a.hops.now) in
-    (steps_refused (refused_1 s a.filter.now a.port a.frame.now (length a.out.now) c.switch_refusal-n.ensures c.if-n-ne0.true) c.if-n-ne0.true, c.requires)
+    record { steps = steps_refused (refused_1 s a.filter.now a.port a.frame.now (length a.out.now) c.switch_refusal-n.ensures c.if-n-ne0.true) c.if-n-ne0.true; sized = c.requires }
 
 pub returns : goal.returns
 returns c =
     let a = c.args in
     let s = switch_of a.s a.nonce (table_of a.addresses.now a.ports.now a.hops.now) in
     let done = c.step_on.ensures in
- record { steps = rw (← passed_1 s a.filter.now a.port a.frame.now (length a.out.now) c.switch_refusal-n.ensures c.if-n-ne0.false) done.0; sized = done.1 }
+    record { steps = rw (← passed_1 s a.filter.now a.port a.frame.now (length a.out.now) c.switch_refusal-n.ensures c.if-n-ne0.false) done.0; sized = done.1 }

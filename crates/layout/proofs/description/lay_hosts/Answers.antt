@@ -13,12 +13,12 @@ loop-i-init c = (omega arith, rows_start, rows_start)
 pub loop-i-preserved : goal.loop-i-preserved
 loop-i-preserved c =
     let v = c.loop-i.invariant in
-    let long : length c.args.t1 ≡ 32 = search rules in
+    let long : length c.args.hosts ≡ 32 = search rules in
     (omega arith, rows_next no_host _ v.1 (omega arith) refl refl refl (omega arith) c.put_pair.ensures, column_next no_host v.2 (omega arith) (omega arith) refl (omega arith))
 
 pub returns : goal.returns
 returns c =
     let v = c.loop-i.invariant in
-    let all = c.args.t1 in
+    let all = c.args.hosts in
     let long : length all ≡ 32 = search rules in
     ((rows_end v.1 (omega arith)).so_far, (laid_whole (column_end v.2 (omega arith)) (omega (arith, length-map all (λ x. x.address))), long))

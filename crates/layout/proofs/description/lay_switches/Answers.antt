@@ -13,12 +13,12 @@ loop-i-init c = (omega arith, rows_start, rows_start)
 pub loop-i-preserved : goal.loop-i-preserved
 loop-i-preserved c =
     let v = c.loop-i.invariant in
-    let long : length c.args.t1 ≡ 16 = search rules in
+    let long : length c.args.switches ≡ 16 = search rules in
     (omega arith, rows_next no_switch _ v.1 (omega arith) refl refl refl (omega arith) c.put_pair.ensures, column_next no_switch v.2 (omega arith) (omega arith) refl (omega arith))
 
 pub returns : goal.returns
 returns c =
     let v = c.loop-i.invariant in
-    let all = c.args.t1 in
+    let all = c.args.switches in
     let long : length all ≡ 16 = search rules in
     ((rows_end v.1 (omega arith)).so_far, (laid_whole (column_end v.2 (omega arith)) (omega (arith, length-map all (λ x. x.salt))), long))

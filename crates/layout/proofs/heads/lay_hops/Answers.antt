@@ -12,7 +12,7 @@ loop-k-init c = (omega arith, rows_start)
 pub loop-k-preserved : goal.loop-k-preserved
 loop-k-preserved c =
     let here = c.loop-k in
-    let all = c.args.t1 in
+    let all = c.args.seats in
     let long : length all ≡ 16 = search rules in
     let laid = c.put_row.ensures in
     (omega arith, rows_next blank (get_or all here.k blank).switch.table.hops here.invariant.1 (omega arith) refl refl laid.1 (omega arith) laid.0)
@@ -20,5 +20,5 @@ loop-k-preserved c =
 pub returns : goal.returns
 returns c =
     let v = c.loop-k.invariant in
-    let long : length c.args.t1 ≡ 16 = search rules in
- record { bytes = (rows_end v.1 (omega arith)).so_far; hops = record { even = λ j h. v.1.even j (omega arith) } }
+    let long : length c.args.seats ≡ 16 = search rules in
+    record { bytes = (rows_end v.1 (omega arith)).so_far; hops = record { even = λ j h. v.1.even j (omega arith) } }

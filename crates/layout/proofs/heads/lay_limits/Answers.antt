@@ -12,11 +12,11 @@ loop-k-init c = (omega arith, rows_start, rows_start, rows_start)
 pub loop-k-preserved : goal.loop-k-preserved
 loop-k-preserved c =
     let v = c.loop-k.invariant in
-    let long : length c.args.t1 ≡ 16 = search rules in
+    let long : length c.args.seats ≡ 16 = search rules in
     (omega arith, column_next blank v.1 (omega arith) refl refl (omega arith), column_next blank v.2 (omega arith) (omega arith) refl (omega arith), column_next blank v.3 (omega arith) (omega arith) refl (omega arith))
 
 pub returns : goal.returns
 returns c =
     let v = c.loop-k.invariant in
-    let long : length c.args.t1 ≡ 16 = search rules in
+    let long : length c.args.seats ≡ 16 = search rules in
     ((column_end v.1 (omega arith)).so_far, ((column_end v.2 (omega arith)).so_far, (column_end v.3 (omega arith)).so_far))

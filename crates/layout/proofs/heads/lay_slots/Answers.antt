@@ -12,7 +12,7 @@ loop-k-init c = (omega arith, rows_start, rows_start)
 pub loop-k-preserved : goal.loop-k-preserved
 loop-k-preserved c =
     let here = c.loop-k in
-    let all = c.args.t1 in
+    let all = c.args.seats in
     let long : length all ≡ 16 = search rules in
     let table = (get_or all here.k blank).switch.table in
     let one = c.put_row.ensures in
@@ -25,5 +25,5 @@ loop-k-preserved c =
 pub returns : goal.returns
 returns c =
     let v = c.loop-k.invariant in
-    let long : length c.args.t1 ≡ 16 = search rules in
+    let long : length c.args.seats ≡ 16 = search rules in
     ((rows_end v.1 (omega arith)).so_far, ((rows_end v.2 (omega arith)).so_far, (record { even = λ j h. v.1.even j (omega arith) }, record { even = λ j h. v.2.even j (omega arith) })))

@@ -16,12 +16,12 @@ unfolding pack
 loop-i-preserved c =
     let v = c.loop-i.invariant in
     let p = c.packed-w in
-    let long : length c.args.t1 ≡ 512 = search rules in
+    let long : length c.args.copies ≡ 512 = search rules in
     (omega arith, rows_next no_copy p.result v.1 (omega arith) refl p.ensures.0 (ap length p.ensures.0) (omega arith) c.put_wides.ensures, below_more _ _ v.2 p.ensures.1)
 
 pub returns : goal.returns
 returns c =
     let v = c.loop-i.invariant in
-    let all = c.args.t1 in
+    let all = c.args.copies in
     let long : length all ≡ 512 = search rules in
- record { wides = (rows_end v.1 (omega arith)).so_far; ranged = record { long = long; ranged = λ k h. v.2 k (omega arith) } }
+    record { wides = (rows_end v.1 (omega arith)).so_far; ranged = record { long = long; ranged = λ k h. v.2 k (omega arith) } }

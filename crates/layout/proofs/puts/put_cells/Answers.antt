@@ -8,5 +8,5 @@ use Rattle.layout.proofs.puts.put_cells.Goals as goal
 
 pub returns : goal.returns
 returns c =
-    let long : length c.args.t1 ≡ 640 = search rules in
- record { bytes = c.put_at.ensures ∙ put_fits _ _ _ (omega arith); long = long }
+    let long : length c.args.cells ≡ 640 = search rules in
+    record { bytes = c.put_at.ensures ∙ put_fits _ _ _ (omega arith); long = long }

@@ -1,7 +1,7 @@
 -- The questions stand in the document's order, and the first that holds answers: `past-..` are the answers once the first ones didn't hold.
 use Prim.Native.Nat.{ℕ}
 use mathlib.Core.Path.{◌≡◌, sym, ◌∙◌}
-use mathlib.Core.List.{List, [], ◌∷◌}
+use mathlib.Core.List.{List, ◌∷◌}
 use Rattle.refusal.specs.Refusal.{Cause, when, first}
 use Rattle.network.specs.declared.Network.{Network}
 use Rattle.network.specs.declared.Record.{Record}

@@ -12,7 +12,7 @@ loop-i-init c = sought_starts
 
 pub returns-then-k-ge-HOSTS : goal.returns-then-k-ge-HOSTS
 returns-then-k-ge-HOSTS c =
-    let long : length c.args.t1 ≡ 32 = search rules in
+    let long : length c.args.hosts ≡ 32 = search rules in
     sought_behind c.loop-i.invariant (omega arith) (omega arith) refl
 
 pub returns-then-h-address : goal.returns-then-h-address

@@ -7,4 +7,4 @@ pub returns-then-place-at : goal.returns-then-place-at
 returns-then-place-at c = simp (eq-eqb _ _ c.if-place-at.true, sym c.place.ensures)
 
 pub returns : goal.returns
-returns c = simp (c.place-2.ensures, ne_eqb _ _ c.if-place-at.false, sym c.place-arg-2-1.ensures)
+returns c = simp (c.place-2.ensures, ne_eqb _ _ c.if-place-at.false, sym c.place.ensures)

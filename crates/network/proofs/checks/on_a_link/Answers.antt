@@ -12,7 +12,7 @@ loop-i-init c = sought_starts
 
 pub returns-then-k-ge-LINKS : goal.returns-then-k-ge-LINKS
 returns-then-k-ge-LINKS c =
-    let long : length c.args.t1 ≡ 64 = search rules in
+    let long : length c.args.links ≡ 64 = search rules in
     sought_behind c.loop-i.invariant (omega arith) (omega arith) (sym (or_same _))
 
 pub returns-then-link_on : goal.returns-then-link_on

@@ -18,7 +18,7 @@ returns-then-place c =
     simp (
       le-leb _ _ c.if-place.true,
       sym c.place-in-Link.ensures,
-      sym c.place-arg-in-Link-1.ensures,
+      sym c.place.ensures,
       c.in-Link.is,
     )
 
@@ -46,6 +46,6 @@ returns-else-place c =
       c.last_of-in-Link.ensures,
       lt-leb _ _ c.if-place.false,
       sym c.place-in-Link.ensures,
-      sym c.place-arg-in-Link-1.ensures,
+      sym c.place.ensures,
       c.in-Link.is,
     )

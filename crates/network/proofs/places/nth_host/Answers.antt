@@ -8,5 +8,5 @@ use Rattle.network.proofs.places.nth_host.Goals as goal
 
 pub returns : goal.returns
 returns c =
-    let long : length c.args.t1 ≡ 32 = search rules in
-    sym (get_or-eq_default c.args.t1 no_host {n = c.args.i} (omega arith))
+    let long : length c.args.hosts ≡ 32 = search rules in
+    sym (get_or-eq_default c.args.hosts no_host {n = c.args.i} (omega arith))

@@ -8,5 +8,5 @@ use Rattle.network.proofs.places.nth_link.Goals as goal
 
 pub returns : goal.returns
 returns c =
-    let long : length c.args.t1 ≡ 64 = search rules in
-    sym (get_or-eq_default c.args.t1 no_link {n = c.args.i} (omega arith))
+    let long : length c.args.links ≡ 64 = search rules in
+    sym (get_or-eq_default c.args.links no_link {n = c.args.i} (omega arith))

@@ -8,5 +8,5 @@ use Rattle.network.proofs.places.nth_switch.Goals as goal
 
 pub returns : goal.returns
 returns c =
-    let long : length c.args.t1 ≡ 16 = search rules in
-    sym (get_or-eq_default c.args.t1 no_switch {n = c.args.i} (omega arith))
+    let long : length c.args.switches ≡ 16 = search rules in
+    sym (get_or-eq_default c.args.switches no_switch {n = c.args.i} (omega arith))

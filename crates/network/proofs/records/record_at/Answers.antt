@@ -1,4 +1,5 @@
 -- A number below the switches' count names a switch, one below the hosts' behind it a host, else a link.
+use Rattle.network.specs.declared.Record.TheVariants.{Switch as OfSwitch, Host as OfHost, Link as OfLink}
 use native.Mathlib.Omega.{arith}
 use mathlib.Core.Path.{◌∙◌, ap}
 use Rattle.network.proofs.Writing.{switch_record, host_record, link_record}
