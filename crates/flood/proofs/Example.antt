@@ -1,6 +1,6 @@
 -- Two switches, a cable between them, and a host on each. With limits of 2, the number of switches, there is a flood, and it ends as the theorem says.
 -- With limits of 1 its one copy is too old for the second switch, and the host there gets nothing: what is asked of the limits is not idle.
-use Prim.Native.Nat.{ℕ, suc}
+use Prim.Native.Nat.{ℕ, suc, ◌≤◌, ◌<◌}
 use mathlib.Core.Path.{◌≡◌, refl, sym}
 use mathlib.Core.Logic.{◌≢◌, inl, inr}
 use mathlib.Core.Bool.{false, ◌||◌}
@@ -8,7 +8,7 @@ use native.Mathlib.Omega.{arith}
 use lib.Dec.{eqb}
 use borrow.Author.Tests.{eq-eqb, ne_eqb}
 use Rattle.flood.specs.Mesh.{Mesh, Across, here, over}
-use Rattle.flood.specs.Delivery.{Moment, Quiet, Start, Begins, First, Passes, Flooding, begun, passed, LimitsSuffice, EveryHostHasOne}
+use Rattle.flood.specs.Delivery.{Reaches, Moment, Quiet, Start, Begins, First, Passes, Flooding, begun, passed, LimitsSuffice, EveryHostHasOne}
 use Rattle.flood.specs.Records.{Records, Home, Root, NamesAlone, Recording, rooted, learned, EverySwitchHasRecord}
 use Rattle.flood.proofs.Laws.{flooding, flood_delivers, records_lead_home, Same, stays}
 
@@ -24,9 +24,17 @@ data Cable : End → End → Type 0 where
   there : Cable left right
   back : Cable right left
 
-one : (e f g : End) → Cable e f → Cable e g → f ≡ g
-one left right right there there = refl
-one right left left back back = refl
+turned : {e f : End} → Cable e f → Cable f e
+turned there = back
+turned back = there
+
+one : {e f g : End} → Cable e f → Cable e g → f ≡ g
+one there there = refl
+one back back = refl
+
+inside : {e f : End} → Cable e f → switch_of e < 2
+inside there = omega arith
+inside back = omega arith
 
 abbrev two : ℕ → Mesh
 two n = record {
@@ -35,9 +43,9 @@ two n = record {
   End = End;
   at = switch_of;
   Cable = Cable;
-  both = λ e f. elim [ there ↦ back | back ↦ there ];
-  one = one;
-  inside = λ e f. elim [ there ↦ omega arith | back ↦ omega arith ];
+  both = λ e f. turned;
+  one = λ e f g. one;
+  inside = λ e f. inside;
 }
 
 abbrev start : (n : ℕ) → Start (two n)
@@ -74,8 +82,8 @@ module _ (n : ℕ) where
     sends = record {
       noted = eq-eqb 0 0 refl;
       others = λ t d. ne_eqb t 0 d;
-      placed = λ e f d c. inr (placed e f c d);
-      only = λ f j. elim [ copy ↦ inr (record { from = left; own = refl; cable = there }, refl) ];
+      placed = λ e f d c. inr (placed c d);
+      only = λ f j w. inr (sent w);
       gone = λ f j w. absurd w;
       at_most = elim [ left ↦ λ d. omega arith | sender ↦ λ d. omega arith | right ↦ λ d. omega arith | receiver ↦ λ d. omega arith ];
       due = elim [ left ↦ λ d w. refl | sender ↦ λ d w. absurd w | right ↦ λ d w. absurd w | receiver ↦ λ d w. absurd (omega (arith, d)) ];
@@ -83,8 +91,12 @@ module _ (n : ℕ) where
     };
   }
     where
-      placed : (e f : End) → Cable e f → switch_of e ≡ 0 → Flight f 1
-      placed e f = elim [ there ↦ λ d. copy | back ↦ λ d. absurd (omega (arith, d)) ]
+      placed : {e f : End} → Cable e f → switch_of e ≡ 0 → Flight f 1
+      placed there d = copy
+      placed back d = absurd (omega (arith, d))
+
+      sent : {f : End} {j : ℕ} → Flight f j → Reaches (two n) 0 f × (j ≡ 1)
+      sent copy = (record { from = left; own = refl; cable = there }, refl)
 
   takes : First (start n) right 1 flying taken
   takes = record {
@@ -93,22 +105,29 @@ module _ (n : ℕ) where
     sends = record {
       noted = rw (eq-eqb 1 1 refl);
       others = λ t d. rw (ne_eqb t 1 d);
-      placed = λ e f d c. inl (placed e f c d);
+      placed = λ e f d c. inl (placed c d);
       only = λ f j w. absurd w;
-      gone = λ f j. elim [ copy ↦ inr refl ];
+      gone = λ f j w. inr (at_right w);
       at_most = elim [ left ↦ λ d. omega arith | sender ↦ λ d. omega arith | right ↦ λ d. omega arith | receiver ↦ λ d. omega arith ];
       due = elim [ left ↦ λ d w. absurd w | sender ↦ λ d w. absurd w | right ↦ λ d w. absurd w | receiver ↦ λ d w. refl ];
       silent = elim [ left ↦ λ d. refl | sender ↦ λ d. refl | right ↦ λ d. refl | receiver ↦ λ d. absurd (d refl) ];
     };
   }
     where
-      placed : (e f : End) → Cable e f → switch_of e ≡ 1 → e ≡ right
-      placed e f = elim [ there ↦ λ d. absurd (omega (arith, d)) | back ↦ λ d. refl ]
+      placed : {e f : End} → Cable e f → switch_of e ≡ 1 → e ≡ right
+      placed there d = absurd (omega (arith, d))
+      placed back d = refl
+
+      at_right : {f : End} {j : ℕ} → Flight f j → switch_of f ≡ 1
+      at_right copy = refl
+
+too_old : {e : End} {k : ℕ} → Flight e k → 1 ≤ k
+too_old copy = omega arith
 
 -- the copy says 1 hop, and has reached a limit of 1
 drops : Passes (flying 1) (dropped 1)
 drops = record {
-  gone = λ e k. elim [ copy ↦ inr (inr (omega arith)) ];
+  gone = λ e k w. inr (inr (too_old w));
   only = λ e k w. absurd w;
   kept = λ e k w t h. h;
   unmade = λ t h. h;
