@@ -100,11 +100,11 @@ module _ {s : State} (r : InRun s) (e : Event) (q : is_free s e ≡ true) where
 -- behind a run of events that take effect the bench is as computed
 pub run_ends : {s : State} → InRun s → (es : List Event) → all_free s es ≡ true → run_of s es ≡ ends s es
 unfolding run_of ends all_free
-run_ends r [] q = refl
-run_ends {s} r (e ∷ es) q =
+run_ends {s = s} r [] q = refl
+run_ends {s = s} r (e ∷ es) q =
     let p = both (is_free s e) (all_free (leaves s e) es) q in
     let effect = free r e p.0 in
-    ap (λ t. run_of t es) effect ∙ run_ends (subst InRun effect (event_in_run r e)) es p.1
+    ap (λ t. run_of t es) effect ∙ run_ends {s = leaves s e} (subst InRun effect (event_in_run r e)) es p.1
 
 keeps : (x : ℕ) (key : List ℕ) (b c : Bench) → all_keep key b c b.network.nswitches ≡ true → KeepsRecord x key b c
 unfolding all_keep
@@ -137,8 +137,8 @@ taking s A (Link l) q = absurd (true≢false (sym q))
 -- a run that passes is one that the order provides for
 pub provided : (A x : ℕ) (key : List ℕ) {s : State} → InRun s → (es : List Event) → all_provided x key s es ≡ true → AllProvided A x key s es
 unfolding all_provided
-provided A x key r [] q = tt
-provided A x key {s} r (e ∷ es) q =
+provided A x key {s = s} r [] q = tt
+provided A x key {s = s} r (e ∷ es) q =
     let rest = all_provided x key (leaves s e) es in
     let still = all_keep key s.bench (event_of s.bench e).bench s.bench.network.nswitches in
     let none = lost_none x (event_of s.bench e).answer in
@@ -152,7 +152,7 @@ provided A x key {s} r (e ∷ es) q =
         room = subst (LosesNone x) (sym (accepted_answer s e (free_goes r e p.0))) (loses x (event_of s.bench e).answer l.0);
         kept = subst (KeepsRecord x key s.bench) (sym (accepted_bench s e (free_goes r e p.0))) (keeps x key s.bench (event_of s.bench e).bench k.0);
       },
-      subst (λ t. AllProvided A x key t es) (sym effect) (provided A x key (subst InRun effect (event_in_run r e)) es k.1),
+      subst (λ t. AllProvided A x key t es) (sym effect) (provided A x key {s = leaves s e} (subst InRun effect (event_in_run r e)) es k.1),
     )
 
 -- ---- Its history
@@ -165,9 +165,9 @@ tells s (e ∷ es) = record { event = e; answer = (event_of s.bench e).answer } 
 -- is the history of the run
 pub history_tells : {s : State} → InRun s → (es : List Event) → all_free s es ≡ true → history_of s es ≡ tells s es
 unfolding history_of tells all_free
-history_tells r [] q = refl
-history_tells {s} r (e ∷ es) q =
+history_tells {s = s} r [] q = refl
+history_tells {s = s} r (e ∷ es) q =
     let p = both (is_free s e) (all_free (leaves s e) es) q in
     let effect = free r e p.0 in
     ap (λ a. record { event = e; answer = a } ∷ history_of (after s e) es) (accepted_answer s e (free_goes r e p.0))
-    ∙ ap (λ h. record { event = e; answer = (event_of s.bench e).answer } ∷ h) (ap (λ t. history_of t es) effect ∙ history_tells (subst InRun effect (event_in_run r e)) es p.1)
+    ∙ ap (λ h. record { event = e; answer = (event_of s.bench e).answer } ∷ h) (ap (λ t. history_of t es) effect ∙ history_tells {s = leaves s e} (subst InRun effect (event_in_run r e)) es p.1)
