@@ -1,5 +1,4 @@
 use Rattle.wire.proofs.Loops.{reading_starts, reading_within, reading_fits, reading_next, reading_ends, reading_small}
-use Prim.Native.Nat.{◌-◌}
 use native.Mathlib.Omega.{arith}
 use Rattle.wire.proofs.number_at.Goals as goal
 

@@ -1,5 +1,4 @@
 use Rattle.wire.proofs.Loops.{putting_starts, putting_next, putting_ends, put_not}
-use Prim.Native.Nat.{◌-◌}
 use native.Mathlib.Omega.{arith}
 use Rattle.wire.proofs.put_at.Goals as goal
 
