@@ -2,6 +2,7 @@
 use native.Mathlib.Omega.{arith}
 use mathlib.Core.Path.{sym, ap, ◌∙◌}
 use lib.ListN.{get_or-eq_default}
+use mathlib.Core.List.{[]}
 use Rattle.flight.specs.Flight.{unpack}
 use Rattle.flight.proofs.copy_at.Goals as goal
 

@@ -25,6 +25,6 @@ returns c =
     let a = c.args in
     let number = c.put_decimal-next.ensures in
     let all = put_last a.out.now a.at (decimal a.n) (text "\n")
-    c.requires (record { ends = number.0; output = number.1 })
+    c.requires (record { ends = number.end; output = number.output })
     c.put_at.ensures refl in
     record { end = all.ends; output = all.output }

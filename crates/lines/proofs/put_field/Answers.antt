@@ -1,7 +1,7 @@
 -- The letter and its spaces are put behind the number.
 use native.Mathlib.Omega.{arith}
 use mathlib.Core.Path.{refl}
-use mathlib.Core.List.{◌∷◌}
+use mathlib.Core.List.{◌∷◌, []}
 use lib.ListN.{length-append}
 use Rattle.lines.proofs.Parts.{first_room, put_last}
 use Rattle.lines.specs.Lines.{decimal, field}
@@ -26,6 +26,6 @@ returns c =
     let a = c.args in
     let number = c.put_decimal-next.ensures in
     let all = put_last a.out.now a.at (decimal a.n) (0x20 ∷ a.letter ∷ 0x20 ∷ [])
-    c.requires (record { ends = number.0; output = number.1 })
+    c.requires (record { ends = number.end; output = number.output })
     c.put_at.ensures refl in
     record { end = all.ends; output = all.output }

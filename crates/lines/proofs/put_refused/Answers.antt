@@ -18,5 +18,5 @@ returns c =
     let room = c.requires in
     let number = c.put_ending.ensures in
     let word = put_first a.out.now a.at (text "refused ") (ending a.n) room c.put_at.ensures in
-    let all = put_next a.out.now a.at (text "refused ") (ending a.n) room word (record { ends = number.0; output = number.1 }) in
+    let all = put_next a.out.now a.at (text "refused ") (ending a.n) room word (record { ends = number.end; output = number.output }) in
     record { end = all.ends; output = all.output }

@@ -10,4 +10,4 @@ returns c =
     let a = c.args in
     let w = c.rules-report.ensures in
     let s = seat_in a.setup a.nonce a.addresses.now a.ports.now a.hops.now a.cells.now in
-    record { steps = rw c.nonce_after.ensures (ap (λ (r : Ruled). seated s a.a.port r) w.0); sized = w.1 }
+    record { steps = rw c.nonce_after.ensures (ap (λ (r : Ruled). seated s a.a.port r) w.after); sized = w.sized }

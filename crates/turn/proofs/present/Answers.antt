@@ -16,4 +16,4 @@ returns c =
     let a = c.args in
     let s = seat_in a.setup a.nonce a.addresses.now a.ports.now a.hops.now a.cells.now in
     let stepped = c.step_head.ensures in
-    record { turns = (λ n up same. turns_as (presented_is s a.h a.to c.from_host-a.ensures n up _) (stepped.0 n up same)); words = laid_all (search rules) stepped.1 }
+    record { turns = (λ n up same. turns_as (presented_is s a.h a.to c.from_host-a.ensures n up _) (stepped.turns n up same)); words = laid_all (search rules) stepped.words }

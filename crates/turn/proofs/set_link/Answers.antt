@@ -7,4 +7,4 @@ use Rattle.turn.proofs.set_link.Goals as goal
 pub returns : goal.returns
 returns c =
     let spares = c.spare-left.ensures in
-    ((λ seat. set_is _ seat c.requires.0 spares), (refl, laid_spared spares))
+    record { turns = (λ seat. set_is _ seat c.requires.0 spares); nonce = refl; words = laid_spared spares }

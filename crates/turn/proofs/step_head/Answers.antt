@@ -5,4 +5,4 @@ use Rattle.turn.proofs.step_head.Goals as goal
 pub returns : goal.returns
 returns c =
     let sent = c.send_out-s.ensures in
-    record { turns = (λ n up same. head_steps n up _ _ _ _ c.step-t.ensures.steps sent.0 sent.1.0 same); words = sent.1.1 }
+    record { turns = (λ n up same. head_steps n up _ _ _ _ c.step-t.ensures.steps sent.sent sent.room same); words = sent.words }

@@ -29,7 +29,8 @@ returns c =
     let s = seat_in a.setup a.nonce a.addresses.now a.ports.now a.hops.now a.cells.now in
     let read = read_there c.requires.0 c.requires.1 c.copy_at-c.ensures c.port_to-port.ensures in
     let taken = c.take_out.ensures in
-    let stepped = c.step_head.ensures in (
-      (λ up same. turns_as (taken_is read c.from_link-a.ensures up s taken.copies) (stepped.0 a.network up same)),
-      laid_without (place_there c.requires.0 c.requires.1) (search rules) taken stepped.1,
-    )
+    let stepped = c.step_head.ensures in
+    record {
+      turns = (λ up same. turns_as (taken_is read c.from_link-a.ensures up s taken.copies) (stepped.turns a.network up same));
+      words = laid_without (place_there c.requires.0 c.requires.1) (search rules) taken stepped.words;
+    }

@@ -33,10 +33,11 @@ returns-in-Present c =
     let flying = copies_in a.flying words in
     let s = seat_in a.setup a.nonce a.addresses.now a.ports.now a.hops.now a.cells.now in
     let is = c.in-Present.is in
-    let took = c.present.ensures in (
-      turns_as (present_turn a.network a.up.now s flying is c.host_of.ensures c.number.ensures.value) (took.0 a.network a.up.now c.requires.2),
-      present_stays (take a.flying words) words is took.1,
-    )
+    let took = c.present.ensures in
+    record {
+      turns = turns_as (present_turn a.network a.up.now s flying is c.host_of.ensures c.number.ensures.value) (took.turns a.network a.up.now c.requires.2);
+      words = present_stays (take a.flying words) words is took.words;
+    }
 
 pub returns-in-Take : goal.returns-in-Take
 returns-in-Take c =
@@ -45,10 +46,11 @@ returns-in-Take c =
     let flying = copies_in a.flying words in
     let s = seat_in a.setup a.nonce a.addresses.now a.ports.now a.hops.now a.cells.now in
     let is = c.in-Take.is in
-    let took = c.take.ensures in (
-      turns_as (take_turn a.network a.up.now s flying is) (took.0 a.up.now c.requires.2),
-      take_stays (take a.flying words) words is took.1,
-    )
+    let took = c.take.ensures in
+    record {
+      turns = turns_as (take_turn a.network a.up.now s flying is) (took.turns a.up.now c.requires.2);
+      words = take_stays (take a.flying words) words is took.words;
+    }
 
 pub returns-in-Link : goal.returns-in-Link
 returns-in-Link c =
@@ -57,7 +59,8 @@ returns-in-Link c =
     let flying = copies_in a.flying words in
     let s = seat_in a.setup a.nonce a.addresses.now a.ports.now a.hops.now a.cells.now in
     let is = c.in-Link.is in
-    let took = c.set_link.ensures in (
-      rw took.1.0 (turns_as (link_turn a.network a.up.now s flying is) (took.0 s)),
-      link_stays (take a.flying words) words is took.1.1,
-    )
+    let took = c.set_link.ensures in
+    record {
+      turns = rw took.nonce (turns_as (link_turn a.network a.up.now s flying is) (took.turns s));
+      words = link_stays (take a.flying words) words is took.words;
+    }

@@ -8,4 +8,4 @@ unfolding rule1
 rules-requires c = (c.requires.0, rw (c.rule1-a.ensures, rule1) c.requires.1)
 
 pub returns : goal.returns
-returns c = let r = c.rules.ensures in record { after = rw c.rule1-a.ensures at r.0; sized = r.1 }
+returns c = let r = c.rules.ensures in record { after = rw c.rule1-a.ensures at r.after; sized = r.sized }

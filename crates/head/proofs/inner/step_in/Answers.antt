@@ -17,4 +17,4 @@ returns c =
     let a = c.args in
     let s = switch_of a.s a.nonce (table_of a.addresses.now a.ports.now a.hops.now) in
     let done = c.step_on.ensures in
-    record { steps = rw (← passed_1 s a.filter.now a.port a.frame.now (length a.out.now) c.switch_refusal-n.ensures c.if-n-ne0.false) done.0; sized = done.1 }
+    record { steps = rw (← passed_1 s a.filter.now a.port a.frame.now (length a.out.now) c.switch_refusal-n.ensures c.if-n-ne0.false) done.steps; sized = done.sized }

@@ -20,4 +20,4 @@ write-requires c = rw c.has_port.ensures (passed_room _ _ _ _ (sym c.frame_refus
 pub returns : goal.returns
 returns c =
     let done = c.accepted-report.ensures in
-    record { steps = steps_done c.frame_refusal-n.ensures c.if-n-ne0.false done.0 c.nonce_after.ensures (rw c.has_port.ensures at c.write.ensures); sized = done.1 }
+    record { steps = steps_done c.frame_refusal-n.ensures c.if-n-ne0.false done.after c.nonce_after.ensures (rw c.has_port.ensures at c.write.ensures); sized = done.sized }

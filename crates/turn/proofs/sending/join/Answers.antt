@@ -8,8 +8,8 @@ pub returns-then-s-lt-MOST : goal.returns-then-s-lt-MOST
 returns-then-s-lt-MOST c =
     let less = c.if-s-lt-MOST.true in
     let joined = c.join.ensures in
-    (placed_there c.requires less joined, (room_there c.requires less joined, written_joined (search rules) joined))
+    record { sent = placed_there c.requires less joined; room = room_there c.requires less joined; words = written_joined (search rules) joined }
 
 pub returns : goal.returns
 returns c =
-    (lost_there c.args.c c.requires c.if-s-lt-MOST.false, (search rules, written_none _ _))
+    record { sent = lost_there c.args.c c.requires c.if-s-lt-MOST.false; room = search rules; words = written_none _ _ }

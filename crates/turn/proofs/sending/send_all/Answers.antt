@@ -15,9 +15,9 @@ pub loop-port-preserved : goal.loop-port-preserved
 loop-port-preserved c =
     let inv = c.loop-port.invariant in
     let sent = c.send_at-s.ensures in
-    (reached_next inv.0 c.loop-port-test.true sent.0 sent.1.0, written_then inv.1 sent.1.1)
+    (reached_next inv.0 c.loop-port-test.true sent.sent sent.room, written_then inv.1 sent.words)
 
 pub returns : goal.returns
 returns c =
     let inv = c.loop-port.invariant in
-    (reached_end inv.0 c.loop-port-test.false, (reached_room inv.0, inv.1))
+    record { sent = reached_end inv.0 c.loop-port-test.false; room = reached_room inv.0; words = inv.1 }

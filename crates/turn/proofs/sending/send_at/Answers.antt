@@ -10,7 +10,7 @@ pub send_on-requires : goal.send_on-requires
 send_on-requires c = (c.requires, subst Numbered (sym c.plug_at.ensures) (numbered _ _ _))
 
 pub returns-then-has_port : goal.returns-then-has_port
-returns-then-has_port c = (named_sent _ _ _ _ _ _ c.has_port.ensures c.if-has_port.true c.plug_at.ensures c.send_on.ensures.sent, c.send_on.ensures.room)
+returns-then-has_port c = record { sent = named_sent _ _ _ _ _ _ c.has_port.ensures c.if-has_port.true c.plug_at.ensures c.send_on.ensures.sent; room = c.send_on.ensures.room; words = c.send_on.ensures.words }
 
 pub returns-else-has_port : goal.returns-else-has_port
-returns-else-has_port c = (unnamed_kept _ _ _ _ _ _ c.has_port.ensures c.if-has_port.false, (search rules, written_none _ _))
+returns-else-has_port c = record { sent = unnamed_kept _ _ _ _ _ _ c.has_port.ensures c.if-has_port.false; room = search rules; words = written_none _ _ }
