@@ -1,6 +1,5 @@
 use Rattle.cabling.proofs.Plugging.{plugged_starts, plugged_ends, host_next}
 use native.Mathlib.Omega.{arith}
-use Prim.Native.Nat.{◌-◌}
 use Rattle.cabling.proofs.plug_hosts.Goals as goal
 
 pub loop-i-init : goal.loop-i-init

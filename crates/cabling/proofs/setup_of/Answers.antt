@@ -1,8 +1,6 @@
 use Rattle.cabling.proofs.Setups.{setup_is}
 use Rattle.cabling.proofs.Masks.{masking_starts, masking_next, masking_room}
-use Rattle.cabling.specs.Cabling.{is_live, is_hosts}
 use native.Mathlib.Omega.{arith}
-use Prim.Native.Nat.{◌-◌}
 use Rattle.cabling.proofs.setup_of.Goals as goal
 
 pub loop-p-init : goal.loop-p-init

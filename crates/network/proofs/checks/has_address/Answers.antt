@@ -1,5 +1,4 @@
 use Rattle.network.proofs.Lists.{sought_starts, sought_next, sought_found, sought_behind, sought_ends}
-use Prim.Native.Nat.{◌-◌}
 use lib.ListN.{length}
 use native.Mathlib.Omega.{arith}
 use borrow.Author.Rules.{rules}

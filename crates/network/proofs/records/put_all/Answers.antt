@@ -1,4 +1,3 @@
-use Prim.Native.Nat.{◌-◌}
 use native.Mathlib.Omega.{arith}
 use Rattle.network.proofs.Writing.{filling_starts, filling_room, filling_next, filling_ends, filled}
 use Rattle.network.proofs.records.put_all.Goals as goal
