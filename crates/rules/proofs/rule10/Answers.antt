@@ -10,4 +10,4 @@ pub returns : goal.returns
 unfolding rule10
 returns c =
     let e = c.erase_in.ensures in
-    record { after = λ f. rw (c.if-h.false, c.plainly-2.ensures, ← e.0); sized = e.1 }
+    record { after = λ f. rw (c.if-h.false, c.plainly-2.ensures, ← e.erased); sized = e.sized }

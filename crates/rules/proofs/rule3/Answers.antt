@@ -10,8 +10,8 @@ returns-then-h c =
     let set = c.if-h.true in
     let e = c.record.ensures in
     let key = triple_key c.args.a c.triple_of-key.ensures in
-    (rw (set, ← key) e.0, (rw (set, ← key) e.1.0, rw (set, ← key) e.1.1))
+    record { duplicate = rw (set, ← key) e.duplicate; overwrote = rw (set, ← key) e.overwrote; filter = rw (set, ← key) e.filter }
 
 pub returns : goal.returns
 unfolding is_duplicate overwrote3 rule3
-returns c = let clear = c.if-h.false in (rw clear, (rw clear, rw clear))
+returns c = let clear = c.if-h.false in record { duplicate = rw clear; overwrote = rw clear; filter = rw clear }

@@ -8,7 +8,7 @@ pub returns-then-erases : goal.returns-then-erases
 unfolding rule5
 returns-then-erases c =
     let e = c.erase_in.ensures in
-    record { table = rw (sym c.erases.ensures ∙ c.if-erases.true) e.0; sized = e.1 }
+    record { table = rw (sym c.erases.ensures ∙ c.if-erases.true) e.erased; sized = e.sized }
 
 pub returns-else-erases : goal.returns-else-erases
 unfolding rule5

@@ -8,7 +8,7 @@ pub returns-then-learns : goal.returns-then-learns
 unfolding rule6
 returns-then-learns c =
     let e = c.learn_in.ensures in
-    record { learned = rw (sym c.learns.ensures ∙ c.if-learns.true) e.0; sized = e.1 }
+    record { learned = rw (sym c.learns.ensures ∙ c.if-learns.true) e.learned; sized = e.sized }
 
 pub returns-else-learns : goal.returns-else-learns
 unfolding rule6

@@ -2,14 +2,13 @@
 use Rattle.rules.proofs.Cases.{rules_by}
 use Rattle.rules.specs.Rules.{rules}
 use borrow.Author.Tests.{lt-ltb, le-ltb}
-use borrow.Author.Rules.{rules}
 use Rattle.rules.proofs.rules.Goals as goal
 
 pub returns-then-s-h : goal.returns-then-s-h
 unfolding rules
 returns-then-s-h c =
     let w = c.rule2.ensures in
-    record { after = rw (lt-ltb _ _ c.if-s-h.taken, c.report_of.ensures, ← w.0 _); sized = w.1 }
+    record { after = rw (lt-ltb _ _ c.if-s-h.true, c.report_of.ensures, ← w.after _); sized = w.sized }
 
 pub returns : goal.returns
 unfolding rules
@@ -17,4 +16,4 @@ returns c =
     let k = c.learning-full.ensures in
     let m = c.rule3-asked.ensures in
     let w = c.forwarding-o.ensures in
-    record { after = rw (le-ltb _ _ c.if-s-h.left, c.report_of-2.ensures) (rules_by _ _ _ _ m.0 m.1.0 m.1.1 k.0 w.0); sized = w.1 }
+    record { after = rw (le-ltb _ _ c.if-s-h.false, c.report_of-2.ensures) (rules_by _ _ _ _ m.duplicate m.overwrote m.filter k.learned w.after); sized = w.sized }
