@@ -50,8 +50,8 @@ event_in_run {s} k e = after_cases InRun s e k (λ z. keeps k e (accepted k e z)
 -- so does every list of events
 pub run_in_run : {s : State} → InRun s → (es : List Event) → InRun (run_of s es)
 unfolding run_of
-run_in_run k [] = k
-run_in_run k (e ∷ es) = run_in_run (event_in_run k e) es
+run_in_run {s = s} k [] = k
+run_in_run {s = s} k (e ∷ es) = run_in_run {s = after s e} (event_in_run k e) es
 
 -- so it holds of every reachable state
 pub reachable_in_run : {s : State} → Reachable s → InRun s
