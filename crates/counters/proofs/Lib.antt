@@ -6,6 +6,5 @@ mod Keeping
 pub mod Causes
 pub mod Doors
 pub mod Laws
-pub mod Plain
 mod Refusing
 mod Telling

@@ -18,9 +18,10 @@ returns-in-Refused c = record { adds = c.zero.ensures ∙ simp c.in-Refused.is; 
 pub returns-in-Stepped : goal.returns-in-Stepped
 unfolding adds
 returns-in-Stepped c =
-    let h : c.in-Stepped.r.received < 2 ^ 32 = search rules in (
-      simp (c.taken_at.ensures.0, flag_bit, c.in-Stepped.is),
-      record {
+    let h : c.in-Stepped.r.received < 2 ^ 32 = search rules in
+    record {
+      adds = simp (c.taken_at.ensures.0, flag_bit, c.in-Stepped.is);
+      small = record {
         placed = search rules;
         taken = search rules;
         cut = search rules;
@@ -28,8 +29,8 @@ returns-in-Stepped c =
         delivered = omega (arith, ones-le 32 _ h);
         overwritten = omega (arith, flag_small c.in-Stepped.r.overwrote);
         accepted = search rules;
-      },
-    )
+      };
+    }
 
 pub returns-in-Linked : goal.returns-in-Linked
 unfolding adds

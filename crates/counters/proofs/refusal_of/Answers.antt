@@ -15,14 +15,15 @@ pub returns-then-fit : goal.returns-then-fit
 returns-then-fit c =
     let e = c.if-c-ge-MOST_EVENTS.false in
     let s = sym c.is_in_shape.ensures.test ∙ c.if-is_in_shape.true in
-    let f = sym c.fit.ensures ∙ c.if-fit.true in (
-      c.own_refusal.ensures ∙ sym (in_shape_own _ _ _ e s f),
-      λ z. record {
+    let f = sym c.fit.ensures ∙ c.if-fit.true in
+    record {
+      refusal = c.own_refusal.ensures ∙ sym (in_shape_own _ _ _ e s f);
+      passes = λ z. record {
         accepted = record { shape = c.is_in_shape.ensures.shape c.if-is_in_shape.true; free = sym c.own_refusal.ensures ∙ z };
         counters = found_fit _ _ f;
         early = e;
-      },
-    )
+      };
+    }
 
 pub returns-then-is_in_shape : goal.returns-then-is_in_shape
 returns-then-is_in_shape c = record { refusal = sym (counters_out _ _ _ c.if-c-ge-MOST_EVENTS.false (sym c.is_in_shape.ensures.test ∙ c.if-is_in_shape.true) (sym c.fit.ensures ∙ c.if-fit.false)); passes = λ z. absurd (omega arith) }

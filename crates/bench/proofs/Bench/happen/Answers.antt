@@ -14,12 +14,8 @@ head_at-seat-requires c =
     let whole : length words.result ≡ most = search rules in
     head_inside c.args.self c.args.e c.requires words.ensures whole c.head_of-k.ensures.accepted
 
-pub slice_bounds-take_turn-end-2 : goal.slice_bounds-take_turn-end-2
-slice_bounds-take_turn-end-2 c = let good = c. in search rules
-
 pub take_turn-t-requires : goal.take_turn-t-requires
 take_turn-t-requires c =
-    let good = c. in
     let words = c.words_of-words in
     let whole : length words.result ≡ most = search rules in
     (words_kept c.args.self c.args.e c.requires words.ensures whole, search rules, c.plugs_of-plugs.ensures, can_turn_on c.args.self c.args.e c.requires words.ensures whole)

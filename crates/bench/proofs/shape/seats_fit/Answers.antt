@@ -15,8 +15,8 @@ loop-k-init c = (passing_starts, search rules)
 pub loop-k-preserved : goal.loop-k-preserved
 loop-k-preserved c =
     let start = c.args in
-    let long : length start.t4 ≡ 16 = search rules in
-    (seat_next start.network start.up.now start.t4 c.loop-k.invariant.0 (same_there start.t4 _ _ no_seat (omega arith)) c.seat_fits.ensures.test c.seat_fits.ensures.fits c.both-fit.ensures, search rules)
+    let long : length start.seats ≡ 16 = search rules in
+    (seat_next start.network start.up.now start.seats c.loop-k.invariant.0 (same_there start.seats _ _ no_seat (omega arith)) c.seat_fits.ensures.test c.seat_fits.ensures.fits c.both-fit.ensures, search rules)
 
 pub returns : goal.returns
-returns c = passing_ends c.loop-k.invariant.0 c.loop-k.invariant.1 (omega arith)
+returns c = let (test, fit) = passing_ends c.loop-k.invariant.0 c.loop-k.invariant.1 (omega arith) in record { test = test; fit = fit }

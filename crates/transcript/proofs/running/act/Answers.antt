@@ -9,10 +9,11 @@ use Rattle.transcript.proofs.running.act.Goals as goal
 pub returns-then-n-ne0 : goal.returns-then-n-ne0
 returns-then-n-ne0 c =
     let a = c.args in
-    let pre = c.requires.0 in (
-      (λ s held. record { seat = s; turns = refused_acts a.network a.up.now a.words.now a.flying a.e c.own_refusal-n.ensures s c.if-n-ne0.true pre.kept; held = held }),
-      only_none a.k (arrays_of a.addresses.now a.ports.now a.hops.now a.cells.now),
-    )
+    let pre = c.requires.0 in
+    record {
+      acts = λ s held. record { seat = s; turns = refused_acts a.network a.up.now a.words.now a.flying a.e c.own_refusal-n.ensures s c.if-n-ne0.true pre.kept; held = held };
+      others = only_none a.k (arrays_of a.addresses.now a.ports.now a.hops.now a.cells.now);
+    }
 
 pub turn-requires : goal.turn-requires
 turn-requires c =
@@ -25,16 +26,17 @@ returns c =
     let pre = c.requires.0 in
     let x = arrays_of a.addresses.now a.ports.now a.hops.now a.cells.now in
     let t = c.turn in
-    let y = arrays_of t.new.1.1.1.1.1.0 t.new.1.1.1.1.1.1.0 t.new.1.1.1.1.1.1.1.0 t.new.1.1.1.1.1.1.1.1.0 in
+    let y = arrays_of t.new.addresses t.new.ports t.new.hops t.new.cells in
     let lent = lent_parted a.k x c.requires.1 pre.few in
-    let parted : Parted y = record { addresses = t.auto.1.1.1.1.1.0 ∙ lent.addresses; ports = t.auto.1.1.1.1.1.1.0 ∙ lent.ports; hops = t.auto.1.1.1.1.1.1.1.0 ∙ lent.hops; cells = t.auto.1.1.1.1.1.1.1.1.0 ∙ lent.cells } in
+    let parted : Parted y = record { addresses = t.auto.addresses ∙ lent.addresses; ports = t.auto.ports ∙ lent.ports; hops = t.auto.hops ∙ lent.hops; cells = t.auto.cells ∙ lent.cells } in
     let asked = c.own_refusal-n.ensures in
     let free = c.if-n-ne0.false in
-    let setup = c.setup_of-setup in (
-      (λ s held. record {
+    let setup = c.setup_of-setup in
+    record {
+      acts = λ s held. record {
         seat = _;
-        turns = accepted_acts a.network a.up.now a.words.now a.flying a.e asked s free (concerned_head a.network a.up.now a.words.now a.flying a.e asked free pre.head) pre.plugged setup.ensures (lent_head a.k x s held setup.result) t.ensures.0;
+        turns = accepted_acts a.network a.up.now a.words.now a.flying a.e asked s free (concerned_head a.network a.up.now a.words.now a.flying a.e asked free pre.head) pre.plugged setup.ensures (lent_head a.k x s held setup.result) t.ensures.turns;
         held = put_head a.k x y c.requires.1 pre.few parted setup.result t.result.nonce;
-      }),
-      put_only a.k x y c.requires.1 pre.few parted,
-    )
+      };
+      others = put_only a.k x y c.requires.1 pre.few parted;
+    }

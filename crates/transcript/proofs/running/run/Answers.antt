@@ -92,7 +92,7 @@ loop-at-preserved c =
     let links = acts.turns.up in
     record {
       seats = _;
-      held = held_next acts.seat v.held few acts.held c.act-t.ensures.1;
+      held = held_next acts.seat v.held few acts.held c.act-t.ensures.others;
       going = going_next c.requires v.going c.loop-at-test.true e (sym read ∙ c.in-Got.is) c.seat_for-k.ensures acts.turns c.line_for.ensures
           (search rules) c.put_line-wrote.ensures.output c.put_line-wrote.ensures.end c.size_of-at.ensures refl refl;
     }

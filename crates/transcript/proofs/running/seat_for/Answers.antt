@@ -1,5 +1,6 @@
 -- The number is that of the head whose turn it is, where the event isn't refused.
 use mathlib.Core.Path.{sym, ◌∙◌}
+use mathlib.Core.List.{[]}
 use Rattle.transcript.proofs.Acting.{none_concerned, head_concerned}
 use Rattle.transcript.proofs.running.seat_for.Goals as goal
 
