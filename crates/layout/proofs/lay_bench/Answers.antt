@@ -8,11 +8,11 @@ returns c =
     let states = c.lay_states.ensures in
     let seats = c.lay_seats.ensures in
     let copies = c.lay_copies.ensures in
-    let sized : SizedBench c.args.b = record { up = states.1; seats = seats.sized; copies = copies.1 } in
+    let sized : SizedBench c.args.b = record { up = states.long; seats = seats.sized; copies = copies.ranged } in
     record {
-      bytes = bench_bytes_laid sized c.args.bytes.now c.requires.bytes states.0 seats.bytes;
+      bytes = bench_bytes_laid sized c.args.bytes.now c.requires.bytes states.bytes seats.bytes;
       masks = seats.masks;
       words = seats.words;
-      wides = bench_wides_laid sized c.args.wides.now c.requires.wides seats.wides copies.0 c.put_wides.ensures;
+      wides = bench_wides_laid sized c.args.wides.now c.requires.wides seats.wides copies.wides c.put_wides.ensures;
       sized = sized;
     }

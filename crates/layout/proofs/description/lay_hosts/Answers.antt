@@ -21,4 +21,4 @@ returns c =
     let v = c.loop-i.invariant in
     let all = c.args.hosts in
     let long : length all ≡ 32 = search rules in
-    ((rows_end v.1 (omega arith)).so_far, (laid_whole (column_end v.2 (omega arith)) (omega (arith, length-map all (λ x. x.address))), long))
+    record { bytes = (rows_end v.1 (omega arith)).so_far; addresses = laid_whole (column_end v.2 (omega arith)) (omega (arith, length-map all (λ x. x.address))); long = long }

@@ -21,4 +21,4 @@ returns c =
     let v = c.loop-i.invariant in
     let all = c.args.switches in
     let long : length all ≡ 16 = search rules in
-    ((rows_end v.1 (omega arith)).so_far, (laid_whole (column_end v.2 (omega arith)) (omega (arith, length-map all (λ x. x.salt))), long))
+    record { bytes = (rows_end v.1 (omega arith)).so_far; salts = laid_whole (column_end v.2 (omega arith)) (omega (arith, length-map all (λ x. x.salt))); long = long }

@@ -15,7 +15,7 @@ loop-k-preserved c =
     let all = c.args.seats in
     let long : length all ≡ 16 = search rules in
     let laid = c.put_cells.ensures in
-    (omega arith, rows_next blank (get_or all here.k blank).cells here.invariant.1 (omega arith) refl refl laid.1 (omega arith) laid.0)
+    (omega arith, rows_next blank (get_or all here.k blank).cells here.invariant.1 (omega arith) refl refl laid.long (omega arith) laid.bytes)
 
 pub returns : goal.returns
 returns c =

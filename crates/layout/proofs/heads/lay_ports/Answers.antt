@@ -19,4 +19,4 @@ pub returns : goal.returns
 returns c =
     let v = c.loop-k.invariant in
     let long : length c.args.seats ≡ 16 = search rules in
-    ((column_end v.1 (omega arith)).so_far, ((column_end v.2 (omega arith)).so_far, ((column_end v.3 (omega arith)).so_far, long)))
+    record { bytes = (column_end v.1 (omega arith)).so_far; masks = (column_end v.2 (omega arith)).so_far; words = (column_end v.3 (omega arith)).so_far; long = long }

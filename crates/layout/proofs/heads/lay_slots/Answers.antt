@@ -18,12 +18,17 @@ loop-k-preserved c =
     let one = c.put_row.ensures in
     let two = c.put_wide_row.ensures in (
       omega arith,
-      rows_next blank table.ports here.invariant.1 (omega arith) refl refl one.1 (omega arith) one.0,
-      rows_next {next = 64 * here.k} blank table.addresses here.invariant.2 (omega arith) (omega arith) refl two.1 (omega arith) two.0,
+      rows_next blank table.ports here.invariant.1 (omega arith) refl refl one.long (omega arith) one.bytes,
+      rows_next {next = 64 * here.k} blank table.addresses here.invariant.2 (omega arith) (omega arith) refl two.long (omega arith) two.wides,
     )
 
 pub returns : goal.returns
 returns c =
     let v = c.loop-k.invariant in
     let long : length c.args.seats ≡ 16 = search rules in
-    ((rows_end v.1 (omega arith)).so_far, ((rows_end v.2 (omega arith)).so_far, (record { even = λ j h. v.1.even j (omega arith) }, record { even = λ j h. v.2.even j (omega arith) })))
+    record {
+      bytes = (rows_end v.1 (omega arith)).so_far;
+      wides = (rows_end v.2 (omega arith)).so_far;
+      ports = record { even = λ j h. v.1.even j (omega arith) };
+      addresses = record { even = λ j h. v.2.even j (omega arith) };
+    }

@@ -17,7 +17,7 @@ loop-i-preserved c =
     let v = c.loop-i.invariant in
     let p = c.packed-w in
     let long : length c.args.copies ≡ 512 = search rules in
-    (omega arith, rows_next no_copy p.result v.1 (omega arith) refl p.ensures.0 (ap length p.ensures.0) (omega arith) c.put_wides.ensures, below_more _ _ v.2 p.ensures.1)
+    (omega arith, rows_next no_copy p.result v.1 (omega arith) refl p.ensures.words (ap length p.ensures.words) (omega arith) c.put_wides.ensures, below_more _ _ v.2 p.ensures.ranged)
 
 pub returns : goal.returns
 returns c =
