@@ -1,4 +1,4 @@
-use Rattle.std.proofs.Common.{◌-◌, sym, ◌∙◌, arith}
+use Rattle.std.proofs.Common.{sym, ◌∙◌, arith}
 use Rattle.filter.proofs.Loops.{passed_starts, passed_next, passed_fails, passed_ends}
 use Rattle.filter.proofs.cells_fit.Goals as goal
 

@@ -1,4 +1,4 @@
-use Rattle.std.proofs.Common.{◌-◌, arith}
+use Rattle.std.proofs.Common.{arith}
 use Rattle.filter.proofs.Loops.{clear_starts, clear_next, clear_differs, clear_ends}
 use Rattle.filter.proofs.empty_at.Goals as goal
 

@@ -1,4 +1,4 @@
-use Rattle.std.proofs.Common.{◌-◌, arith}
+use Rattle.std.proofs.Common.{arith}
 use Rattle.filter.proofs.Loops.{hashing_starts, hashing_next, hashing_ends}
 use Rattle.filter.proofs.hash_of.Goals as goal
 

@@ -1,4 +1,4 @@
-use Rattle.std.proofs.Common.{◌-◌, arith}
+use Rattle.std.proofs.Common.{arith}
 use Rattle.filter.proofs.Loops.{comparing_starts, comparing_next, comparing_differs, comparing_ends}
 use Rattle.filter.proofs.same_at.Goals as goal
 

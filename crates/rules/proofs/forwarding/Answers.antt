@@ -1,7 +1,6 @@
 use Rattle.rules.proofs.Cases.{forwarding_flood, forwarding_onward}
 use mathlib.Core.Path.{sym, ◌∙◌}
 use Rattle.rules.specs.Rules.{forwarding}
-use borrow.Author.Rules.{rules}
 use Rattle.rules.proofs.forwarding.Goals as goal
 
 -- Rule 7, rule 8, and else rules 9 to 11.

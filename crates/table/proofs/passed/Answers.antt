@@ -1,4 +1,3 @@
-use Prim.Native.Nat.{◌-◌}
 use Rattle.table.proofs.Slots.{none_passed, slots_next}
 use Rattle.table.proofs.passed.Goals as goal
 

@@ -1,6 +1,5 @@
 use mathlib.Core.Path.{sym}
 use native.Mathlib.Omega.{arith}
-use Prim.Native.Nat.{◌-◌}
 use Rattle.table.proofs.Slots.{slot_here, slot_next, slot_end}
 use Rattle.table.proofs.slot_of.Goals as goal
 
