@@ -3,43 +3,60 @@
 // is answered by "refused " and the number.
 #![tactic(auto)]
 
+ghost use Rattle.std.specs.Prelude.{◌≤◌, length, IfOk};
+
 use network::Answer;
+use std::io::{self, Read};
 
 // One byte more than the longest input, so that a longer one is refused and not cut.
 const ROOM: usize = 60_001;
 // A description of 16 switches, 32 hosts and 64 links.
 const LONGEST: usize = 945;
 
-fn refused(number: u8) {
-    io::write_all(1, b"refused ");
-    io::print_decimal(1, number as u64);
-    io::write_all(1, b"\n");
-}
-
-fn put(out: &[u8], long: usize) {
-    if long <= out.len() {
-        io::write_all(1, &out[..long]);
+// Reads until the input is full or has ended, and says how many bytes came. Each turn but the last
+// brings some.
+fn read_full(reader: &mut impl Read, input: &mut [u8]) -> io::Result<usize>
+    ensures { IfOk result (λ n. n ≤ length input.new) }
+{
+    let mut n = 0;
+    for _ in 0..input.len() {
+        let more = reader.read(&mut input[n..])?;
+        if more == 0 {
+            break;
+        }
+        n += more;
     }
+    Ok(n)
 }
 
-fn answer(input: &[u8]) {
+fn refused(rt: &impl Print, number: u8) -> io::Result<()> {
+    println!(rt; "refused {number}")
+}
+
+fn put(rt: &impl Print, out: &[u8], long: usize) -> io::Result<()> {
+    if long <= out.len() {
+        rt.write_all(&out[..long])?;
+    }
+    Ok(())
+}
+
+fn answer(rt: &impl Print, input: &[u8]) -> io::Result<()> {
     let d = network::read(input);
     let found = d.answer;
     if let Answer::Refused(number) = found {
-        refused(number);
-        return;
+        return refused(rt, number);
     }
     let n = d.network;
     let mut out = [0u8; LONGEST];
     let written = network::write(n, &mut out);
     match written {
-        Answer::Refused(number) => refused(number),
-        Answer::Ends(long) => put(&out, long),
+        Answer::Refused(number) => refused(rt, number),
+        Answer::Ends(long) => put(rt, &out, long),
     }
 }
 
-fn main() {
+fn main(rt: HostRuntime) -> io::Result<()> {
     let mut input = [0u8; ROOM];
-    let n = io::read_full(0, &mut input);
-    answer(&input[..n]);
+    let n = read_full(&mut rt.reader(), &mut input)?;
+    answer(&rt, &input[..n])
 }
