@@ -67,7 +67,7 @@ impl Proved {
     }
 
     fn start(&self, name: &str, input: &[u8]) -> Result<String, Failure> {
-        let built = self.root.join("target/bin").join(name).exists();
+        let built = self.root.join("crates").join(name).join("out").join(name).exists();
         let progress = if built { Progress::new() } else { Progress::none() };
         if !built {
             output::say(&format!(
