@@ -2,7 +2,6 @@ use borrow.Author.Rules.{rules}
 use Rattle.bench.proofs.Following.{none_followed, one_followed, all_followed}
 use Rattle.bench.proofs.Lists.{same_there}
 use Rattle.bench.specs.Bench.{no_seat}
-use Prim.Native.Nat.{◌-◌}
 use Rattle.bench.proofs.follow.Goals as goal
 
 pub loop-k-init : goal.loop-k-init

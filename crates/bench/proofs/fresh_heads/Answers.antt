@@ -1,5 +1,4 @@
 use Rattle.bench.proofs.Heads.{none_seated, one_seated, all_seated}
-use Prim.Native.Nat.{◌-◌}
 use Rattle.bench.proofs.fresh_heads.Goals as goal
 
 pub loop-k-init : goal.loop-k-init

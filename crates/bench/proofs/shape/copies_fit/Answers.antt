@@ -2,7 +2,6 @@ use borrow.Author.Rules.{rules}
 use Rattle.bench.proofs.Tested.{passing_starts, passing_next, passing_ends}
 use native.Mathlib.Omega.{arith}
 use Rattle.bench.specs.Shape.{copy_fits}
-use Prim.Native.Nat.{◌-◌}
 use Rattle.bench.proofs.shape.copies_fit.Goals as goal
 
 pub loop-i-init : goal.loop-i-init

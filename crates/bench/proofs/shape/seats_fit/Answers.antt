@@ -6,7 +6,6 @@ use Rattle.bench.proofs.Tested.{passing_starts, seat_next, passing_ends}
 use Rattle.bench.specs.Shape.{seat_fits}
 use Rattle.bench.specs.Bench.{no_seat}
 use lib.ListN.{length}
-use Prim.Native.Nat.{◌-◌}
 use Rattle.bench.proofs.shape.seats_fit.Goals as goal
 
 pub loop-k-init : goal.loop-k-init

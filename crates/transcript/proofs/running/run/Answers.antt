@@ -9,7 +9,7 @@ use Rattle.event.proofs.Laws.{answer_is, size_range}
 use Rattle.lines.proofs.Laws.{stop_long}
 use Rattle.lines.specs.Lines.{line_of, stop_line}
 use borrow.Author.Rules.{rules}
-use Prim.Native.Nat.{◌-◌, ◌<◌}
+use Prim.Native.Nat.{◌<◌}
 use Rattle.transcript.proofs.running.run.Goals as goal
 
 pub loop-at-init : goal.loop-at-init
