@@ -8,6 +8,7 @@
 // is built without it.
 #![tactic(auto)]
 
-mod frames;
-mod heads;
+// A library exports no symbol: crate `engine_c` offers the functions of these two to C.
+pub mod frames;
+pub mod heads;
 pub mod numbers;

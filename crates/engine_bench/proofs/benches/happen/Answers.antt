@@ -9,4 +9,4 @@ pub lay_counted-requires : goal.lay_counted-requires
 lay_counted-requires c = c.requires
 
 pub returns : goal.returns
-returns c = happen_done (happens_is _ c.happens-counted.ensures c.bench_of-bench.ensures c.counters_of.ensures) c.refusal_of-refused.ensures c.if-refused-ne0.false c.lay_counted.ensures.bench c.lay_counted.ensures.counters.0 c.lay_counted.ensures.counters.1
+returns c = happen_done (happens_is _ c.happens-counted.ensures c.bench_of-bench.ensures c.counters_of.ensures) c.refusal_of-refused.ensures c.if-refused-ne0.false c.lay_counted.ensures.bench c.lay_counted.ensures.counters c.lay_counted.ensures.report
