@@ -1,8 +1,8 @@
 /* Stumpclover: the switch of a measuring head, and the bench on which planners try a stand, as C
- * functions over the proved engine, for x86-64 programs. `rt staticlib engine` writes
- * target/staticlib/libengine.a, with a head's functions: sc_switch_fresh, sc_step, sc_lookup, sc_tag
- * and sc_strip. `rt staticlib engine_bench` writes libengine_bench.a, with sc_read, sc_write,
- * sc_fresh and sc_event. Each is whole by itself; a program may link both.
+ * functions over the proved engine, for x86-64 programs. `examples/run` builds the archives, by
+ * `rt lib` in crates/engine_c and in crates/engine_bench: target/staticlib/libengine.a, with a head's
+ * functions sc_switch_fresh, sc_step, sc_lookup, sc_tag and sc_strip, and libengine_bench.a, with
+ * sc_read, sc_write, sc_fresh and sc_event. Each is whole by itself; a program may link both.
  *
  * Every function takes any arguments and returns 0, or the number of the first cause in document
  * 01's order for which it refuses the call. A refused call leaves everything lent as it was, also
