@@ -10,6 +10,7 @@ use event::{Address, Event, Presented, Setting};
 use flight::Copy;
 use network::Network;
 use seat::Seat;
+use std::io;
 use turn::{Answer, Report};
 
 #[derive(Clone, Copy)]
@@ -275,28 +276,29 @@ fn used(up: bool, i: usize, count: u8) -> u64 {
     0
 }
 
-fn print_seat(i: usize, s: Seat) {
-    Row::start(b"seat").decimal(i as u64).end();
+fn print_seat(rt: &impl Print, i: usize, s: Seat) -> io::Result<()> {
+    Row::start(rt, b"seat")?.decimal(i as u64)?.end()?;
     let switch = s.switch;
-    heads::print_head(switch);
+    heads::print_head(rt, switch)?;
     let cells = s.cells;
-    heads::print_filter(&cells);
+    heads::print_filter(rt, &cells)
 }
 
-fn print_seats(seats: [Seat; Network::SWITCHES], count: u8) {
+fn print_seats(rt: &impl Print, seats: [Seat; Network::SWITCHES], count: u8) -> io::Result<()> {
     let mut i: usize = 0;
     while i < Network::SWITCHES {
         if count as usize <= i {
-            return;
+            return Ok(());
         }
         let s = seats[i];
-        print_seat(i, s);
+        print_seat(rt, i, s)?;
         i += 1;
     }
+    Ok(())
 }
 
 // Where it will arrive, and what it carries.
-fn print_copy(n: Network, i: usize, c: Copy) {
+fn print_copy(rt: &impl Print, n: Network, i: usize, c: Copy) -> io::Result<()> {
     let port = cabling::port_of(
         n,
         End {
@@ -304,80 +306,92 @@ fn print_copy(n: Network, i: usize, c: Copy) {
             second: c.second,
         },
     );
-    let row = stands::put_port(Row::start(b"copy").decimal(i as u64), port);
-    let row = row.address(c.source).address(c.destination);
+    let row = stands::put_port(Row::start(rt, b"copy")?.decimal(i as u64)?, port)?;
+    let row = row.address(c.source)?.address(c.destination)?;
     let h = c.header;
-    frames::put_header(row, h).end();
+    frames::put_header(row, h)?.end()
 }
 
-fn print_copies(n: Network, copies: [Copy; Copy::MOST], flying: usize) {
-    Row::start(b"copies").decimal(flying as u64).end();
+fn print_copies(
+    rt: &impl Print,
+    n: Network,
+    copies: [Copy; Copy::MOST],
+    flying: usize,
+) -> io::Result<()> {
+    Row::start(rt, b"copies")?.decimal(flying as u64)?.end()?;
     let mut i: usize = 0;
     while i < Copy::MOST {
         if flying <= i {
-            return;
+            return Ok(());
         }
         let c = copies[i];
-        print_copy(n, i, c);
+        print_copy(rt, n, i, c)?;
         i += 1;
     }
+    Ok(())
 }
 
 // The bench without what lies behind its counts.
-pub(crate) fn print_bench(b: Bench) {
+pub(crate) fn print_bench(rt: &impl Print, b: Bench) -> io::Result<()> {
     let n = b.network;
-    stands::print_network(n);
+    stands::print_network(rt, n)?;
     let up = b.up;
-    Row::start(b"states").hex(states_of(up, n.nlinks), 16).end();
+    Row::start(rt, b"states")?
+        .hex(states_of(up, n.nlinks), 16)?
+        .end()?;
     let seats = b.seats;
-    print_seats(seats, n.nswitches);
+    print_seats(rt, seats, n.nswitches)?;
     let copies = b.copies;
-    print_copies(n, copies, b.flying);
+    print_copies(rt, n, copies, b.flying)
 }
 
-pub(crate) fn print_counters(c: Counters) {
-    let row = Row::start(b"counters").decimal(c.placed).decimal(c.taken);
-    let row = row.decimal(c.cut).decimal(c.lost).decimal(c.delivered);
-    row.decimal(c.overwritten).decimal(c.accepted).end();
+pub(crate) fn print_counters(rt: &impl Print, c: Counters) -> io::Result<()> {
+    let row = Row::start(rt, b"counters")?
+        .decimal(c.placed)?
+        .decimal(c.taken)?;
+    let row = row.decimal(c.cut)?.decimal(c.lost)?.decimal(c.delivered)?;
+    row.decimal(c.overwritten)?.decimal(c.accepted)?.end()
 }
 
 // What came of a step's copies; none are cut.
-fn put_sent(row: Row, r: Report) -> Row {
-    let row = row.decimal(r.placed as u64).decimal(r.lost as u64);
-    row.text(b" 0").hex(r.received as u64, 8).flag(r.overwrote)
+fn put_sent<P: Print>(row: Row<'_, P>, r: Report) -> io::Result<Row<'_, P>> {
+    let row = row.decimal(r.placed as u64)?.decimal(r.lost as u64)?;
+    row.text(b" 0")?
+        .hex(r.received as u64, 8)?
+        .flag(r.overwrote)
 }
 
 // Where a step was, and the frame's addresses.
-fn put_place(row: Row, r: Report) -> Row {
-    let row = row.decimal(r.switch as u64).decimal(r.port as u64);
-    row.address(r.source).address(r.destination)
+fn put_place<P: Print>(row: Row<'_, P>, r: Report) -> io::Result<Row<'_, P>> {
+    let row = row.decimal(r.switch as u64)?.decimal(r.port as u64)?;
+    row.address(r.source)?.address(r.destination)
 }
 
-fn print_stepped(r: Report) {
+fn print_stepped(rt: &impl Print, r: Report) -> io::Result<()> {
     let v = r.verdict;
-    let row = heads::put_verdict(Row::start(b"report"), v);
-    put_place(put_sent(row, r), r).end();
+    let row = heads::put_verdict(Row::start(rt, b"report")?, v)?;
+    put_place(put_sent(row, r)?, r)?.end()
 }
 
-fn print_linked(cut: u16) {
-    let row = Row::start(b"report K 0000 0 0 0 0 0 0").decimal(cut as u64);
-    row.text(b" 00000000 0").end();
+fn print_linked(rt: &impl Print, cut: u16) -> io::Result<()> {
+    let row = Row::start(rt, b"report K 0000 0 0 0 0 0 0")?.decimal(cut as u64)?;
+    row.text(b" 00000000 0")?.end()
 }
 
 // The report; nothing of a refusal.
-pub(crate) fn print_report(answer: Answer) {
+pub(crate) fn print_report(rt: &impl Print, answer: Answer) -> io::Result<()> {
     match answer {
-        Answer::Refused(_) => {}
-        Answer::Stepped(r) => print_stepped(r),
-        Answer::Linked(cut) => print_linked(cut),
+        Answer::Refused(_) => Ok(()),
+        Answer::Stepped(r) => print_stepped(rt, r),
+        Answer::Linked(cut) => print_linked(rt, cut),
     }
 }
 
-fn print_same(is_same: bool) {
+fn print_same(rt: &impl Print, is_same: bool) -> io::Result<()> {
     if is_same {
-        print::line(b"same");
+        print::line(rt, b"same")
     } else {
-        print::line(b"changed");
+        print::line(rt, b"changed")
     }
 }
 
@@ -387,50 +401,46 @@ pub(crate) fn happen(bench: Bench, e: Event, mut counters: Counters) -> Counted 
     Counted { happened, counters }
 }
 
-fn act(b: Bench, c: Counters, e: Event) {
+fn act(rt: &impl Print, b: Bench, c: Counters, e: Event) -> io::Result<()> {
     let counted = happen(b, e, c);
     let happened = counted.happened;
     let bench = happened.bench;
     let counters = counted.counters;
     let answer = happened.answer;
     if let Answer::Refused(n) = answer {
-        print::refused(n);
-        print_same(same::is_same(b, bench, c, counters));
-        return;
+        print::refused(rt, n)?;
+        return print_same(rt, same::is_same(b, bench, c, counters));
     }
-    print_report(answer);
-    print_bench(bench);
-    print_counters(counters);
+    print_report(rt, answer)?;
+    print_bench(rt, bench)?;
+    print_counters(rt, counters)
 }
 
-pub(crate) fn event(line: &[u8], at: usize) {
+pub(crate) fn event(rt: &impl Print, line: &[u8], at: usize) -> io::Result<()> {
     let b = bench(line, at);
     let c = counters(line, b.next);
     let e = event_read(line, c.next);
     if e.next != line.len() {
-        print::line(b"unreadable");
-        return;
+        return print::line(rt, b"unreadable");
     }
     let bench = b.bench;
     let counters = c.counters;
     let event = e.event;
-    act(bench, counters, event);
+    act(rt, bench, counters, event)
 }
 
-pub(crate) fn fresh(line: &[u8], at: usize) {
+pub(crate) fn fresh(rt: &impl Print, line: &[u8], at: usize) -> io::Result<()> {
     let read = stands::network(line, at);
     if read.next != line.len() {
-        print::line(b"unreadable");
-        return;
+        return print::line(rt, b"unreadable");
     }
     let n = read.network;
     let fresh = Bench::fresh(n);
     let made = fresh.made;
     if let Made::Refused(n) = made {
-        print::refused(n);
-        return;
+        return print::refused(rt, n);
     }
-    print::line(b"fresh");
+    print::line(rt, b"fresh")?;
     let b = fresh.bench;
-    print_bench(b);
+    print_bench(rt, b)
 }

@@ -2,6 +2,7 @@
 use crate::print::Row;
 use crate::{print, token};
 use frame::{Header, Stripping, Tagging};
+use std::io;
 
 #[derive(Clone, Copy)]
 pub(crate) struct HeaderRead {
@@ -25,72 +26,77 @@ pub(crate) fn header(line: &[u8], at: usize) -> HeaderRead {
     }
 }
 
-pub(crate) fn put_header(row: Row, h: Header) -> Row {
-    let flags = row.flag(h.l).flag(h.f);
-    flags.decimal(h.hc as u64).decimal(h.nonce as u64)
+pub(crate) fn put_header<P: Print>(row: Row<'_, P>, h: Header) -> io::Result<Row<'_, P>> {
+    let flags = row.flag(h.l)?.flag(h.f)?;
+    flags.decimal(h.hc as u64)?.decimal(h.nonce as u64)
 }
 
-fn print_tagged(t: Tagging) {
+fn print_tagged(rt: &impl Print, t: Tagging) -> io::Result<()> {
     match t {
-        Tagging::Refused(n) => print::refused(n),
-        Tagging::Tagged(n) => Row::start(b"tagged").decimal(n as u64).end(),
+        Tagging::Refused(n) => print::refused(rt, n),
+        Tagging::Tagged(n) => Row::start(rt, b"tagged")?.decimal(n as u64)?.end(),
     }
 }
 
-fn tag_into(frame: &[u8], h: Header, output: &mut [u8], fill: u8) {
+fn tag_into(
+    rt: &impl Print,
+    frame: &[u8],
+    h: Header,
+    output: &mut [u8],
+    fill: u8,
+) -> io::Result<()> {
     print::fill(output, fill);
-    print_tagged(frame::tag(frame, h, output));
-    print::output(output, fill);
+    print_tagged(rt, frame::tag(frame, h, output))?;
+    print::output(rt, output, fill)
 }
 
-fn tag_frame(line: &[u8], at: usize, frame: &[u8]) {
+fn tag_frame(rt: &impl Print, line: &[u8], at: usize, frame: &[u8]) -> io::Result<()> {
     let h = header(line, at);
     let o = token::output(line, h.next);
     if o.next != line.len() {
-        print::line(b"unreadable");
-        return;
+        return print::line(rt, b"unreadable");
     }
     let mut output = [0u8; token::OUTPUT];
     let long = o.length;
     let header = h.header;
-    tag_into(frame, header, &mut output[0..long], o.fill);
+    tag_into(rt, frame, header, &mut output[0..long], o.fill)
 }
 
-pub(crate) fn tag(line: &[u8], at: usize) {
+pub(crate) fn tag(rt: &impl Print, line: &[u8], at: usize) -> io::Result<()> {
     let mut frame = [0u8; token::FRAME];
     let read = token::bytes(line, at, &mut frame);
-    tag_frame(line, read.next, token::first(&frame, read.count));
+    tag_frame(rt, line, read.next, token::first(&frame, read.count))
 }
 
-fn print_stripped(s: Stripping) {
+fn print_stripped(rt: &impl Print, s: Stripping) -> io::Result<()> {
     match s {
-        Stripping::Refused(n) => print::refused(n),
+        Stripping::Refused(n) => print::refused(rt, n),
         Stripping::Stripped(host) => {
             let h = host.header;
-            put_header(Row::start(b"stripped").decimal(host.len as u64), h).end();
+            let row = Row::start(rt, b"stripped")?.decimal(host.len as u64)?;
+            put_header(row, h)?.end()
         }
     }
 }
 
-fn strip_into(frame: &[u8], output: &mut [u8], fill: u8) {
+fn strip_into(rt: &impl Print, frame: &[u8], output: &mut [u8], fill: u8) -> io::Result<()> {
     print::fill(output, fill);
-    print_stripped(frame::strip(frame, output));
-    print::output(output, fill);
+    print_stripped(rt, frame::strip(frame, output))?;
+    print::output(rt, output, fill)
 }
 
-fn strip_frame(line: &[u8], at: usize, frame: &[u8]) {
+fn strip_frame(rt: &impl Print, line: &[u8], at: usize, frame: &[u8]) -> io::Result<()> {
     let o = token::output(line, at);
     if o.next != line.len() {
-        print::line(b"unreadable");
-        return;
+        return print::line(rt, b"unreadable");
     }
     let mut output = [0u8; token::OUTPUT];
     let long = o.length;
-    strip_into(frame, &mut output[0..long], o.fill);
+    strip_into(rt, frame, &mut output[0..long], o.fill)
 }
 
-pub(crate) fn strip(line: &[u8], at: usize) {
+pub(crate) fn strip(rt: &impl Print, line: &[u8], at: usize) -> io::Result<()> {
     let mut frame = [0u8; token::FRAME];
     let read = token::bytes(line, at, &mut frame);
-    strip_frame(line, read.next, token::first(&frame, read.count));
+    strip_frame(rt, line, read.next, token::first(&frame, read.count))
 }

@@ -6,7 +6,7 @@
 // whole, made, and printed, and only a line that was read to its end is answered.
 #![tactic(auto)]
 
-ghost use Rattle.std.specs.Prelude.{◌≤◌, length};
+ghost use Rattle.std.specs.Prelude.{◌≤◌, length, IfOk};
 
 mod benches;
 mod frames;
@@ -17,10 +17,10 @@ mod same;
 mod stands;
 mod token;
 
+use std::io::{self, Read};
+
 // The longest line, its newline and some more: a line that doesn't fit ends the program.
 const INPUT: usize = 262_144;
-
-const STANDARD_INPUT: i32 = 0;
 
 // What was read and isn't answered yet is the input from a place on up to another.
 #[derive(Clone, Copy)]
@@ -31,45 +31,45 @@ struct Places {
 }
 
 // The answer to a line on a stand, without its last line.
-fn answer_stand(line: &[u8]) {
+fn answer_stand(rt: &impl Print, line: &[u8]) -> io::Result<()> {
     if token::starts_with(line, b"read") {
-        stands::read(line, 4);
+        stands::read(rt, line, 4)
     } else if token::starts_with(line, b"write") {
-        stands::write(line, 5);
+        stands::write(rt, line, 5)
     } else if token::starts_with(line, b"fresh") {
-        benches::fresh(line, 5);
+        benches::fresh(rt, line, 5)
     } else if token::starts_with(line, b"event") {
-        benches::event(line, 5);
+        benches::event(rt, line, 5)
     } else if token::starts_with(line, b"run") {
-        runs::run(line, 3);
+        runs::run(rt, line, 3)
     } else {
-        print::line(b"unreadable");
+        print::line(rt, b"unreadable")
     }
 }
 
 // The answer to a line, without its last line.
-fn answer(line: &[u8]) {
+fn answer(rt: &impl Print, line: &[u8]) -> io::Result<()> {
     if token::starts_with(line, b"step") {
-        heads::step(line, 4);
+        heads::step(rt, line, 4)
     } else if token::starts_with(line, b"tag") {
-        frames::tag(line, 3);
+        frames::tag(rt, line, 3)
     } else if token::starts_with(line, b"strip") {
-        frames::strip(line, 5);
+        frames::strip(rt, line, 5)
     } else {
-        answer_stand(line);
+        answer_stand(rt, line)
     }
 }
 
 // The answer to the line from a place on up to another.
-fn answer_part(input: &[u8], from: usize, end: usize) {
+fn answer_part(rt: &impl Print, input: &[u8], from: usize, end: usize) -> io::Result<()> {
     if input.len() < end {
-        return;
+        return Ok(());
     }
     if end < from {
-        return;
+        return Ok(());
     }
-    answer(&input[from..end]);
-    print::line(b"end");
+    answer(rt, &input[from..end])?;
+    print::line(rt, b"end")
 }
 
 // The place of the next newline, or the end.
@@ -104,76 +104,78 @@ fn move_down(input: &mut [u8], from: usize, end: usize) -> usize {
 }
 
 // Reads once, and says how many bytes came.
-fn read_once(room: &mut [u8]) -> usize
-    ensures { result ≤ length room.new }
+fn read_once(reader: &mut impl Read, room: &mut [u8]) -> io::Result<usize>
+    ensures { IfOk result (λ count. count ≤ length room.new) }
 {
-    let got = libc::read(STANDARD_INPUT, room);
-    io::count(got, room)
+    reader.read(room)
 }
 
 // Reads more behind a place, and says where that ends.
-fn read_behind(input: &mut [u8], place: usize) -> usize {
+fn read_behind(reader: &mut impl Read, input: &mut [u8], place: usize) -> io::Result<usize> {
     if input.len() < place {
-        return place;
+        return Ok(place);
     }
-    let more = read_once(&mut input[place..]);
-    place + more
+    let more = read_once(reader, &mut input[place..])?;
+    Ok(place + more)
 }
 
 // Answers the last line, if it has no newline.
-fn close(input: &[u8], end: usize) -> Places {
+fn close(rt: &impl Print, input: &[u8], end: usize) -> io::Result<Places> {
     if 0 < end {
-        answer_part(input, 0, end);
+        answer_part(rt, input, 0, end)?;
     }
-    Places {
+    Ok(Places {
         from: 0,
         end: 0,
         open: false,
-    }
+    })
 }
 
 // Answers the next line, or reads more where there is none.
-fn turn(input: &mut [u8], p: Places) -> Places {
+fn turn(
+    rt: &impl Print,
+    reader: &mut impl Read,
+    input: &mut [u8],
+    p: Places,
+) -> io::Result<Places> {
     let end = line_end(input, p.from, p.end);
     if end < p.end {
-        answer_part(input, p.from, end);
-        return Places {
+        answer_part(rt, input, p.from, end)?;
+        return Ok(Places {
             from: end + 1,
             end: p.end,
             open: true,
-        };
+        });
     }
     let kept = move_down(input, p.from, p.end);
-    let end = read_behind(input, kept);
+    let end = read_behind(reader, input, kept)?;
     if end == kept {
-        return close(input, end);
+        return close(rt, input, end);
     }
-    Places {
+    Ok(Places {
         from: 0,
         end,
         open: true,
-    }
+    })
 }
 
 // A proved loop has to end, and nothing says that the input does: no run uses up so many turns.
-fn serve(input: &mut [u8]) {
-    let mut turns = u64::MAX;
+fn serve(rt: &impl Print, reader: &mut impl Read, input: &mut [u8]) -> io::Result<()> {
     let mut p = Places {
         from: 0,
         end: 0,
         open: true,
     };
-    while 0 < turns {
-        p = turn(input, p);
-        if p.open {
-            turns -= 1;
-        } else {
-            return;
+    for _ in 0..u64::MAX {
+        p = turn(rt, reader, input, p)?;
+        if !p.open {
+            break;
         }
     }
+    Ok(())
 }
 
-fn main() {
+fn main(rt: HostRuntime) -> io::Result<()> {
     let mut input = [0u8; INPUT];
-    serve(&mut input);
+    serve(&rt, &mut rt.reader(), &mut input)
 }

@@ -1,118 +1,150 @@
 // Printing, a line at a time: a row is filled token by token and written out with its newline. Rows
-// are values, so that what prints lends nothing. Tokens are put with the space before them.
+// are values, and each has the printer that it is for. Tokens are put with the space before them.
 
-ghost use Rattle.std.specs.Prelude.{◌<◌, ◌≤◌};
+ghost use Rattle.std.specs.Prelude.{◌<◌, ◌≤◌, length, IfOk};
 
 use crate::token;
-
-const STANDARD_OUTPUT: i32 = 1;
+use std::io;
 
 // Longer than any line; a row that is full all the same is written out, and goes on.
 const ROW: usize = 192;
 
 const PIECE: usize = 10;
 
-#[derive(Clone, Copy)]
-pub(crate) struct Row {
+#[derive(Drop)]
+pub(crate) struct Row<'a, P: Print> {
+    rt: &'a P,
     bytes: [u8; ROW],
     long: usize,
 }
 
 // Writes out the first bytes.
-pub(crate) fn write(bytes: &[u8], count: usize) {
-    io::write_all(STANDARD_OUTPUT, token::first(bytes, count));
+pub(crate) fn write(rt: &impl Print, bytes: &[u8], count: usize) -> io::Result<()> {
+    rt.write_all(token::first(bytes, count))
 }
 
 // The place of a row's next byte.
-fn room(bytes: [u8; ROW], long: usize) -> usize
-    ensures { result < 192 }
+fn room(rt: &impl Print, bytes: [u8; ROW], long: usize) -> io::Result<usize>
+    ensures { IfOk result (λ at. at < 192) }
 {
     if long < ROW {
-        return long;
+        return Ok(long);
     }
-    write(&bytes, long);
-    0
+    write(rt, &bytes, long)?;
+    Ok(0)
 }
 
-impl Row {
-    pub(crate) fn start(word: &[u8]) -> Row {
+// A digit as it is printed.
+fn hex_of(digit: u64) -> u8
+    requires { digit < 16 }
+{
+    if digit < 10 {
+        return b'0' + digit as u8;
+    }
+    b'a' + (digit as u8 - 10)
+}
+
+// Puts a number's digits before the end, with zeros before them up to the width, and says where
+// they start. What doesn't fit before the start is left out.
+fn put_digits(n: u64, base: u64, width: usize, digits: &mut [u8]) -> usize
+    requires base_nonzero { 0 < base }
+    requires base_small { base ≤ 16 }
+    ensures { result ≤ length digits.new }
+{
+    let mut at = digits.len();
+    let mut left = n;
+    while 0 < at {
+        if (left == 0) & (width <= digits.len() - at) {
+            return at;
+        }
+        at -= 1;
+        digits[at] = hex_of(left % base);
+        left = left / base;
+    }
+    at
+}
+
+impl<'a, P: Print> Row<'a, P> {
+    pub(crate) fn start(rt: &'a P, word: &[u8]) -> io::Result<Row<'a, P>> {
         let empty = Row {
+            rt,
             bytes: [0u8; ROW],
             long: 0,
         };
         empty.text(word)
     }
 
-    pub(crate) fn text(self, text: &[u8]) -> Row {
+    pub(crate) fn text(self, text: &[u8]) -> io::Result<Row<'a, P>> {
+        let rt = self.rt;
         let mut bytes = self.bytes;
         let mut long = self.long;
         let mut i: usize = 0;
         while i < text.len() {
-            let at = room(bytes, long);
+            let at = room(rt, bytes, long)?;
             bytes[at] = text[i];
             long = at + 1;
             i += 1;
         }
-        Row { bytes, long }
+        Ok(Row { rt, bytes, long })
     }
 
-    pub(crate) fn letter(self, b: u8) -> Row {
+    pub(crate) fn letter(self, b: u8) -> io::Result<Row<'a, P>> {
         let mut token = [b' '; 2];
         token[1] = b;
         self.text(&token)
     }
 
-    pub(crate) fn decimal(self, n: u64) -> Row {
+    pub(crate) fn decimal(self, n: u64) -> io::Result<Row<'a, P>> {
         let mut digits = [0u8; 20];
-        let count = io::decimal(n, &mut digits);
-        self.text(b" ").text(&digits[..count])
+        let start = put_digits(n, 10, 1, &mut digits);
+        self.text(b" ")?.text(&digits[start..])
     }
 
-    fn hex_digits(self, n: u64, width: usize) -> Row {
+    fn hex_digits(self, n: u64, width: usize) -> io::Result<Row<'a, P>> {
         let mut digits = [0u8; 16];
-        let count = io::hex(n, width, &mut digits);
-        self.text(&digits[..count])
+        let start = put_digits(n, 16, width, &mut digits);
+        self.text(&digits[start..])
     }
 
-    pub(crate) fn hex(self, n: u64, width: usize) -> Row {
-        self.text(b" ").hex_digits(n, width)
+    pub(crate) fn hex(self, n: u64, width: usize) -> io::Result<Row<'a, P>> {
+        self.text(b" ")?.hex_digits(n, width)
     }
 
-    pub(crate) fn address(self, n: u64) -> Row {
+    pub(crate) fn address(self, n: u64) -> io::Result<Row<'a, P>> {
         self.hex(n, 16)
     }
 
-    pub(crate) fn flag(self, b: bool) -> Row {
+    pub(crate) fn flag(self, b: bool) -> io::Result<Row<'a, P>> {
         self.decimal(b as u64)
     }
 
     // Ten bytes from a place on, or as many as there are.
-    fn piece(self, bytes: &[u8], from: usize) -> Row {
+    fn piece(self, bytes: &[u8], from: usize) -> io::Result<Row<'a, P>> {
         let mut row = self;
         let mut i = from;
         while i < bytes.len() {
             if PIECE <= i - from {
-                return row;
+                return Ok(row);
             }
-            row = row.hex_digits(wire::wide(bytes[i]), 2);
+            row = row.hex_digits(wire::wide(bytes[i]), 2)?;
             i += 1;
         }
-        row
+        Ok(row)
     }
 
-    pub(crate) fn end(self) {
-        let ended = self.text(b"\n");
+    pub(crate) fn end(self) -> io::Result<()> {
+        let ended = self.text(b"\n")?;
         let bytes = ended.bytes;
-        write(&bytes, ended.long);
+        write(ended.rt, &bytes, ended.long)
     }
 }
 
-pub(crate) fn line(text: &[u8]) {
-    Row::start(text).end();
+pub(crate) fn line(rt: &impl Print, text: &[u8]) -> io::Result<()> {
+    Row::start(rt, text)?.end()
 }
 
-pub(crate) fn refused(n: u8) {
-    Row::start(b"refused").decimal(n as u64).end();
+pub(crate) fn refused(rt: &impl Print, n: u8) -> io::Result<()> {
+    Row::start(rt, b"refused")?.decimal(n as u64)?.end()
 }
 
 // Whether ten bytes from a place on differ.
@@ -131,11 +163,12 @@ fn differs(before: &[u8], after: &[u8], from: usize) -> bool {
 }
 
 // A line for the piece of ten bytes from a place on, if it isn't as before.
-fn piece(name: &[u8], before: &[u8], after: &[u8], from: usize) {
+fn piece(rt: &impl Print, name: &[u8], before: &[u8], after: &[u8], from: usize) -> io::Result<()> {
     if differs(before, after, from) {
-        let row = Row::start(name).decimal((from / PIECE) as u64);
-        row.text(b" ").piece(after, from).end();
+        let row = Row::start(rt, name)?.decimal((from / PIECE) as u64)?;
+        row.text(b" ")?.piece(after, from)?.end()?;
     }
+    Ok(())
 }
 
 // Where the next piece starts; behind the last one that is the end.
@@ -150,12 +183,18 @@ fn next_piece(from: usize, end: usize) -> usize
 }
 
 // A line for each piece that isn't as before.
-pub(crate) fn differing(name: &[u8], before: &[u8], after: &[u8]) {
+pub(crate) fn differing(
+    rt: &impl Print,
+    name: &[u8],
+    before: &[u8],
+    after: &[u8],
+) -> io::Result<()> {
     let mut from: usize = 0;
     while from < after.len() {
-        piece(name, before, after, from);
+        piece(rt, name, before, after, from)?;
         from = next_piece(from, after.len());
     }
+    Ok(())
 }
 
 // Byte i of an output before the call.
@@ -167,9 +206,9 @@ pub(crate) fn fill(output: &mut [u8], first: u8) {
     }
 }
 
-pub(crate) fn output(output: &[u8], first: u8) {
+pub(crate) fn output(rt: &impl Print, output: &[u8], first: u8) -> io::Result<()> {
     let mut before = [0u8; token::OUTPUT];
     fill(&mut before, first);
-    Row::start(b"out").decimal(output.len() as u64).end();
-    differing(b"piece", &before, output);
+    Row::start(rt, b"out")?.decimal(output.len() as u64)?.end()?;
+    differing(rt, b"piece", &before, output)
 }

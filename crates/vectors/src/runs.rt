@@ -5,6 +5,7 @@ use bench::Bench;
 use counters::Counters;
 use event::Event;
 use lines::Line;
+use std::io;
 use turn::Answer;
 
 // An event's line is shorter.
@@ -20,22 +21,31 @@ struct Running {
     open: bool,
 }
 
-fn print_line(l: Line) {
+fn print_line(rt: &impl Print, l: Line) -> io::Result<()> {
     let mut line = [0u8; LINE];
     let end = lines::put_line(&mut line, 0, l);
-    print::write(&line, end);
+    print::write(rt, &line, end)
 }
 
-fn print_event(number: u32, e: Event, answer: Answer, flying: usize) {
-    print_line(Line {
-        number,
-        letter: event::letter_of(e),
-        refusal: turn::refusal_of(answer),
-        verdict: turn::verdict_of(answer),
-        received: turn::received_by(answer),
-        flying: (flying % 0x1_0000) as u16,
-    });
-    benches::print_report(answer);
+fn print_event(
+    rt: &impl Print,
+    number: u32,
+    e: Event,
+    answer: Answer,
+    flying: usize,
+) -> io::Result<()> {
+    print_line(
+        rt,
+        Line {
+            number,
+            letter: event::letter_of(e),
+            refusal: turn::refusal_of(answer),
+            verdict: turn::verdict_of(answer),
+            received: turn::received_by(answer),
+            flying: (flying % 0x1_0000) as u16,
+        },
+    )?;
+    benches::print_report(rt, answer)
 }
 
 // The place behind a record, at most the end.
@@ -49,7 +59,7 @@ fn behind(at: usize, size: usize, end: usize) -> usize {
     at + size
 }
 
-fn happen(r: Running, e: Event, end: usize) -> Running {
+fn happen(rt: &impl Print, r: Running, e: Event, end: usize) -> io::Result<Running> {
     let b = r.bench;
     let c = r.counters;
     let counted = benches::happen(b, e, c);
@@ -57,49 +67,49 @@ fn happen(r: Running, e: Event, end: usize) -> Running {
     let bench = happened.bench;
     let counters = counted.counters;
     let answer = happened.answer;
-    print_event(r.number, e, answer, bench.flying);
-    Running {
+    print_event(rt, r.number, e, answer, bench.flying)?;
+    Ok(Running {
         bench,
         counters,
         at: behind(r.at, event::size_of(e), end),
         number: std::num::wrapping_add_u32(r.number, 1),
         open: true,
-    }
+    })
 }
 
 // The next event; a bad record ends the run.
-fn next(input: &[u8], r: Running) -> Running {
+fn next(rt: &impl Print, input: &[u8], r: Running) -> io::Result<Running> {
     let read = event::read_event(input, r.at);
     match read {
-        event::Answer::Got(e) => happen(r, e, input.len()),
+        event::Answer::Got(e) => happen(rt, r, e, input.len()),
         event::Answer::Refused(_) => {
-            print::line(b"stop 20");
+            print::line(rt, b"stop 20")?;
             let mut stopped = r;
             stopped.open = false;
-            stopped
+            Ok(stopped)
         }
     }
 }
 
 // Each event takes at least one byte of the input.
-fn run_from(input: &[u8], start: Running) -> Running {
+fn run_from(rt: &impl Print, input: &[u8], start: Running) -> io::Result<Running> {
     let mut r = start;
     let mut turns = input.len();
     while 0 < turns {
         if input.len() <= r.at {
-            return r;
+            return Ok(r);
         }
-        r = next(input, r);
+        r = next(rt, input, r)?;
         if r.open {
             turns -= 1;
         } else {
-            return r;
+            return Ok(r);
         }
     }
-    r
+    Ok(r)
 }
 
-fn run_bench(input: &[u8], bench: Bench, at: usize) {
+fn run_bench(rt: &impl Print, input: &[u8], bench: Bench, at: usize) -> io::Result<()> {
     let start = Running {
         bench,
         counters: Counters::zero(),
@@ -107,31 +117,30 @@ fn run_bench(input: &[u8], bench: Bench, at: usize) {
         number: 1,
         open: true,
     };
-    let r = run_from(input, start);
+    let r = run_from(rt, input, start)?;
     let b = r.bench;
     let c = r.counters;
-    benches::print_bench(b);
-    benches::print_counters(c);
+    benches::print_bench(rt, b)?;
+    benches::print_counters(rt, c)
 }
 
-fn run_input(input: &[u8]) {
+fn run_input(rt: &impl Print, input: &[u8]) -> io::Result<()> {
     let d = network::read(input);
     let answer = d.answer;
     let n = d.network;
     let fresh = Bench::fresh(n);
     let b = fresh.bench;
     match answer {
-        network::Answer::Refused(n) => print::refused(n),
-        network::Answer::Ends(at) => run_bench(input, b, at),
+        network::Answer::Refused(n) => print::refused(rt, n),
+        network::Answer::Ends(at) => run_bench(rt, input, b, at),
     }
 }
 
-pub(crate) fn run(line: &[u8], at: usize) {
+pub(crate) fn run(rt: &impl Print, line: &[u8], at: usize) -> io::Result<()> {
     let mut input = [0u8; token::INPUT];
     let read = token::input(line, at, &mut input);
     if read.next != line.len() {
-        print::line(b"unreadable");
-        return;
+        return print::line(rt, b"unreadable");
     }
-    run_input(token::first(&input, read.count));
+    run_input(rt, token::first(&input, read.count))
 }

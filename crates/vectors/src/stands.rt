@@ -2,6 +2,7 @@
 use crate::print::Row;
 use crate::{print, token};
 use network::{Answer, Host, Link, Network, Port, Switch};
+use std::io;
 
 #[derive(Clone, Copy)]
 pub(crate) struct NetworkRead {
@@ -136,82 +137,91 @@ pub(crate) fn network(line: &[u8], at: usize) -> NetworkRead {
     links(line, b.next, n)
 }
 
-pub(crate) fn put_port(row: Row, p: Port) -> Row {
-    row.decimal(p.switch as u64).decimal(p.number as u64)
+pub(crate) fn put_port<P: Print>(row: Row<'_, P>, p: Port) -> io::Result<Row<'_, P>> {
+    row.decimal(p.switch as u64)?.decimal(p.number as u64)
 }
 
-fn print_switch(i: usize, s: Switch) {
-    let row = Row::start(b"switch").decimal(i as u64);
-    let row = row.decimal(s.ports as u64).decimal(s.limit as u64);
-    row.hex(s.salt as u64, 8).end();
+fn print_switch(rt: &impl Print, i: usize, s: Switch) -> io::Result<()> {
+    let row = Row::start(rt, b"switch")?.decimal(i as u64)?;
+    let row = row.decimal(s.ports as u64)?.decimal(s.limit as u64)?;
+    row.hex(s.salt as u64, 8)?.end()
 }
 
-fn print_host(i: usize, h: Host) {
+fn print_host(rt: &impl Print, i: usize, h: Host) -> io::Result<()> {
     let p = h.port;
-    let row = put_port(Row::start(b"host").decimal(i as u64), p);
-    row.address(h.address).end();
+    let row = put_port(Row::start(rt, b"host")?.decimal(i as u64)?, p)?;
+    row.address(h.address)?.end()
 }
 
-fn print_link(i: usize, l: Link) {
+fn print_link(rt: &impl Print, i: usize, l: Link) -> io::Result<()> {
     let p = l.first;
-    let row = put_port(Row::start(b"link").decimal(i as u64), p);
+    let row = put_port(Row::start(rt, b"link")?.decimal(i as u64)?, p)?;
     let p = l.second;
-    put_port(row, p).end();
+    put_port(row, p)?.end()
 }
 
-fn print_switches(switches: [Switch; Network::SWITCHES], count: u8) {
+fn print_switches(
+    rt: &impl Print,
+    switches: [Switch; Network::SWITCHES],
+    count: u8,
+) -> io::Result<()> {
     let mut i: usize = 0;
     while i < Network::SWITCHES {
         if count as usize <= i {
-            return;
+            return Ok(());
         }
         let s = switches[i];
-        print_switch(i, s);
+        print_switch(rt, i, s)?;
         i += 1;
     }
+    Ok(())
 }
 
-fn print_hosts(hosts: [Host; Network::HOSTS], count: u8) {
+fn print_hosts(rt: &impl Print, hosts: [Host; Network::HOSTS], count: u8) -> io::Result<()> {
     let mut i: usize = 0;
     while i < Network::HOSTS {
         if count as usize <= i {
-            return;
+            return Ok(());
         }
         let h = hosts[i];
-        print_host(i, h);
+        print_host(rt, i, h)?;
         i += 1;
     }
+    Ok(())
 }
 
-fn print_links(links: [Link; Network::LINKS], count: u8) {
+fn print_links(rt: &impl Print, links: [Link; Network::LINKS], count: u8) -> io::Result<()> {
     let mut i: usize = 0;
     while i < Network::LINKS {
         if count as usize <= i {
-            return;
+            return Ok(());
         }
         let l = links[i];
-        print_link(i, l);
+        print_link(rt, i, l)?;
         i += 1;
     }
+    Ok(())
 }
 
 // The network without what lies behind its counts.
-pub(crate) fn print_network(n: Network) {
-    let row = Row::start(b"network").decimal(n.nswitches as u64);
-    row.decimal(n.nhosts as u64).decimal(n.nlinks as u64).end();
+pub(crate) fn print_network(rt: &impl Print, n: Network) -> io::Result<()> {
+    let row = Row::start(rt, b"network")?.decimal(n.nswitches as u64)?;
+    row.decimal(n.nhosts as u64)?
+        .decimal(n.nlinks as u64)?
+        .end()?;
     let switches = n.switches;
-    print_switches(switches, n.nswitches);
+    print_switches(rt, switches, n.nswitches)?;
     let hosts = n.hosts;
-    print_hosts(hosts, n.nhosts);
+    print_hosts(rt, hosts, n.nhosts)?;
     let links = n.links;
-    print_links(links, n.nlinks);
+    print_links(rt, links, n.nlinks)
 }
 
 // A word and where the description ends, or a refusal.
-fn print_end(word: &[u8], answer: Answer) {
+fn print_end(rt: &impl Print, word: &[u8], answer: Answer) -> io::Result<()> {
     match answer {
-        Answer::Refused(n) => print::refused(n),
-        Answer::Ends(at) => Row::start(word).decimal(at as u64).end(),
+        Answer::Refused(n) => print::refused(rt, n),
+        Answer::Ends(at) => Row::start(rt, word)?.decimal(at as u64)?.end(),
     }
 }
 
@@ -222,42 +232,40 @@ fn is_refused(answer: Answer) -> bool {
     }
 }
 
-fn read_input(input: &[u8]) {
+fn read_input(rt: &impl Print, input: &[u8]) -> io::Result<()> {
     let d = network::read(input);
     let answer = d.answer;
-    print_end(b"read", answer);
+    print_end(rt, b"read", answer)?;
     if is_refused(answer) {
-        return;
+        return Ok(());
     }
     let n = d.network;
-    print_network(n);
+    print_network(rt, n)
 }
 
-pub(crate) fn read(line: &[u8], at: usize) {
+pub(crate) fn read(rt: &impl Print, line: &[u8], at: usize) -> io::Result<()> {
     let mut input = [0u8; token::INPUT];
     let read = token::input(line, at, &mut input);
     if read.next != line.len() {
-        print::line(b"unreadable");
-        return;
+        return print::line(rt, b"unreadable");
     }
-    read_input(token::first(&input, read.count));
+    read_input(rt, token::first(&input, read.count))
 }
 
-fn write_into(n: Network, output: &mut [u8], fill: u8) {
+fn write_into(rt: &impl Print, n: Network, output: &mut [u8], fill: u8) -> io::Result<()> {
     print::fill(output, fill);
-    print_end(b"written", network::write(n, output));
-    print::output(output, fill);
+    print_end(rt, b"written", network::write(n, output))?;
+    print::output(rt, output, fill)
 }
 
-pub(crate) fn write(line: &[u8], at: usize) {
+pub(crate) fn write(rt: &impl Print, line: &[u8], at: usize) -> io::Result<()> {
     let read = network(line, at);
     let o = token::output(line, read.next);
     if o.next != line.len() {
-        print::line(b"unreadable");
-        return;
+        return print::line(rt, b"unreadable");
     }
     let mut output = [0u8; token::OUTPUT];
     let long = o.length;
     let n = read.network;
-    write_into(n, &mut output[0..long], o.fill);
+    write_into(rt, n, &mut output[0..long], o.fill)
 }
