@@ -9,6 +9,7 @@
 ghost use Rattle.std.specs.Prelude.{◌≤◌, length, IfOk};
 
 mod benches;
+mod digits;
 mod frames;
 mod heads;
 mod print;

@@ -3,6 +3,7 @@
 
 ghost use Rattle.std.specs.Prelude.{◌<◌, ◌≤◌, length, IfOk};
 
+use crate::digits::{decimal, hex};
 use crate::token;
 use std::io;
 
@@ -32,36 +33,6 @@ fn room(rt: &impl Print, bytes: [u8; ROW], long: usize) -> io::Result<usize>
     }
     write(rt, &bytes, long)?;
     Ok(0)
-}
-
-// A digit as it is printed.
-fn hex_of(digit: u64) -> u8
-    requires { digit < 16 }
-{
-    if digit < 10 {
-        return b'0' + digit as u8;
-    }
-    b'a' + (digit as u8 - 10)
-}
-
-// Puts a number's digits before the end, with zeros before them up to the width, and says where
-// they start. What doesn't fit before the start is left out.
-fn put_digits(n: u64, base: u64, width: usize, digits: &mut [u8]) -> usize
-    requires base_nonzero { 0 < base }
-    requires base_small { base ≤ 16 }
-    ensures { result ≤ length digits.new }
-{
-    let mut at = digits.len();
-    let mut left = n;
-    while 0 < at {
-        if (left == 0) & (width <= digits.len() - at) {
-            return at;
-        }
-        at -= 1;
-        digits[at] = hex_of(left % base);
-        left = left / base;
-    }
-    at
 }
 
 impl<'a, P: Print> Row<'a, P> {
@@ -96,14 +67,14 @@ impl<'a, P: Print> Row<'a, P> {
 
     pub(crate) fn decimal(self, n: u64) -> io::Result<Row<'a, P>> {
         let mut digits = [0u8; 20];
-        let start = put_digits(n, 10, 1, &mut digits);
-        self.text(b" ")?.text(&digits[start..])
+        let count = decimal(n, &mut digits);
+        self.text(b" ")?.text(&digits[..count])
     }
 
     fn hex_digits(self, n: u64, width: usize) -> io::Result<Row<'a, P>> {
         let mut digits = [0u8; 16];
-        let start = put_digits(n, 16, width, &mut digits);
-        self.text(&digits[start..])
+        let count = hex(n, width, &mut digits);
+        self.text(&digits[..count])
     }
 
     pub(crate) fn hex(self, n: u64, width: usize) -> io::Result<Row<'a, P>> {
