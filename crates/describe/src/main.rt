@@ -3,31 +3,13 @@
 // is answered by "refused " and the number.
 #![tactic(auto)]
 
-ghost use Rattle.std.specs.Prelude.{◌≤◌, length, IfOk};
-
 use network::Answer;
-use std::io::{self, Read};
+use std::io;
 
 // One byte more than the longest input, so that a longer one is refused and not cut.
 const ROOM: usize = 60_001;
 // A description of 16 switches, 32 hosts and 64 links.
 const LONGEST: usize = 945;
-
-// Reads until the input is full or has ended, and says how many bytes came. Each turn but the last
-// brings some.
-fn read_full(reader: &mut impl Read, input: &mut [u8]) -> io::Result<usize>
-    ensures { IfOk result (λ n. n ≤ length input.new) }
-{
-    let mut n = 0;
-    for _ in 0..input.len() {
-        let more = reader.read(&mut input[n..])?;
-        if more == 0 {
-            break;
-        }
-        n += more;
-    }
-    Ok(n)
-}
 
 fn refused(rt: &impl Print, number: u8) -> io::Result<()> {
     println!(rt; "refused {number}")
@@ -56,7 +38,7 @@ fn answer(rt: &impl Print, input: &[u8]) -> io::Result<()> {
 }
 
 fn main(rt: HostRuntime) -> io::Result<()> {
-    let mut input = [0u8; ROOM];
-    let n = read_full(&mut rt.reader(), &mut input)?;
-    answer(&rt, &input[..n])
+    let mut room = [0u8; ROOM];
+    let n = input::read_full(&mut rt.reader(), &mut room)?;
+    answer(&rt, &room[..n])
 }
