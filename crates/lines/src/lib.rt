@@ -64,7 +64,7 @@ fn width_of(n: u32) -> usize
 // Puts the lowest digits of a number into the output from a place on.
 fn put_digits(out: &mut [u8], at: usize, n: u32, base: u32, count: usize)
     requires count_in_bounds { at + count ≤ length out.old }
-    requires le_base { (2 ≤ base) × (base ≤ 16) }
+    requires base_in_range { (2 ≤ base) × (base ≤ 16) }
     ensures { out.new ≡ put out.old at (digits base count n) }
 {
     let mut left = n;

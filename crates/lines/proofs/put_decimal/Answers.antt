@@ -9,7 +9,7 @@ use Rattle.lines.proofs.put_decimal.Goals as goal
 pub put_digits-requires : goal.put_digits-requires
 put_digits-requires c =
     let a = c.args in
-    record { count_in_bounds = omega (arith, c.requires, decimal_long a.n, c.width_of-count.ensures); le_base = (omega arith, omega arith) }
+    record { count_in_bounds = omega (arith, c.requires, decimal_long a.n, c.width_of-count.ensures); base_in_range = (omega arith, omega arith) }
 
 pub returns : goal.returns
 unfolding decimal

@@ -10,17 +10,17 @@ pub overflow_sub-i : goal.overflow_sub-i
 overflow_sub-i c = omega arith
 
 pub nonzero_rem-left : goal.nonzero_rem-left
-nonzero_rem-left c = omega (arith, c.requires.le_base)
+nonzero_rem-left c = omega (arith, c.requires.base_in_range)
 
 pub overflow_cast-left : goal.overflow_cast-left
 overflow_cast-left c =
     omega
-    (arith, c.requires.le_base, mod-lt c.loop-i.left {m = c.args.base} (omega (arith, c.requires.le_base)))
+    (arith, c.requires.base_in_range, mod-lt c.loop-i.left {m = c.args.base} (omega (arith, c.requires.base_in_range)))
 
 pub hex_of-requires : goal.hex_of-requires
 hex_of-requires c =
     omega
-    (arith, c.requires.le_base, mod-lt c.loop-i.left {m = c.args.base} (omega (arith, c.requires.le_base)))
+    (arith, c.requires.base_in_range, mod-lt c.loop-i.left {m = c.args.base} (omega (arith, c.requires.base_in_range)))
 
 pub overflow_add-out : goal.overflow_add-out
 overflow_add-out c = omega (arith, c.requires.count_in_bounds, c.loop-i.invariant.all)
@@ -29,7 +29,7 @@ pub bounds-out-at : goal.bounds-out-at
 bounds-out-at c = omega (arith, c.requires.count_in_bounds, c.loop-i.invariant.all, c.loop-i.invariant.long)
 
 pub nonzero_div-left : goal.nonzero_div-left
-nonzero_div-left c = omega (arith, c.requires.le_base)
+nonzero_div-left c = omega (arith, c.requires.base_in_range)
 
 pub loop-i-smaller : goal.loop-i-smaller
 loop-i-smaller c = omega arith

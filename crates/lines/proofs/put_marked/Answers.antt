@@ -9,7 +9,7 @@ pub put_digits-requires : goal.put_digits-requires
 unfolding marked hex8 digits
 put_digits-requires c =
     let a = c.args in
-    record { count_in_bounds = first_room a.out.now a.at (hex8 a.received) (text " ") c.requires; le_base = (omega arith, omega arith) }
+    record { count_in_bounds = first_room a.out.now a.at (hex8 a.received) (text " ") c.requires; base_in_range = (omega arith, omega arith) }
 
 pub returns : goal.returns
 unfolding marked hex8 digits text
