@@ -191,7 +191,6 @@ def convert(crate, path, listed, report):
     said = lambda text: report.append(f"{path}: {text}")
     function = Function(listed, said)
     text = open(path, encoding="utf-8").read()
-    head = [l for l in text.split("\n") if l.startswith("--")]
     top = []
     for l in text.split("\n"):
         if l.startswith("--"):
