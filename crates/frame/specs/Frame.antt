@@ -5,10 +5,7 @@ use Rattle.refusal.specs.Refusal.{Cause, when, first, outside, Told, answered, l
 use Rattle.wire.specs.Wire.{number, bytes_of, part}
 use Rattle.frame.specs.Header.{header_bytes, header_of, header_values, too_large}
 use Rattle.frame.specs.declared.Header.{Header}
-use Rattle.frame.specs.declared.Tagging.{Tagging}
-use Rattle.frame.specs.declared.Tagging.TheVariants.{Refused as NotTagged, Tagged}
-use Rattle.frame.specs.declared.Stripping.{Stripping}
-use Rattle.frame.specs.declared.Stripping.TheVariants.{Refused as NotStripped, Stripped}
+use Rattle.frame.specs.declared.Host.{Host}
 
 -- the type of a tagged frame (IEEE local experimental)
 abbrev pub our_type : ℕ
@@ -101,11 +98,6 @@ strip_answer frame room = answered (strip_refusal frame room) ((length frame - 6
 abbrev pub strip_output : List ℕ → List ℕ → List ℕ
 strip_output frame out = leaves (strip_refusal frame (length out)) out (at_start (stripped frame) out)
 
--- number and values of each case of the two answers
-abbrev pub told_tagging : Tagging → Told
-told_tagging (NotTagged n) = record { number = n; values = [] }
-told_tagging (Tagged len) = record { number = 0; values = len ∷ [] }
-
-abbrev pub told_stripping : Stripping → Told
-told_stripping (NotStripped n) = record { number = n; values = [] }
-told_stripping (Stripped host) = record { number = 0; values = host.len ∷ header_values host.header }
+-- the values of what stripping gives
+abbrev pub host_values : Host → List ℕ
+host_values host = host.len ∷ header_values host.header

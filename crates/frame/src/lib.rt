@@ -6,11 +6,12 @@
 // arithmetic. Tagging and stripping take any bytes: whatever isn't a frame is refused by number.
 #![tactic(auto)]
 
-ghost use Rattle.std.specs.Prelude.{◌≡◌, ◌+◌, ◌-◌, ◌≤◌, length};
+ghost use Rattle.std.specs.Prelude.{◌≡◌, ◌+◌, ◌-◌, ◌≤◌, length, [], ◌∷◌};
+ghost use Rattle.refusal.specs.Number.{refused_as, told};
 ghost use Rattle.frame.specs.Header.{byte0, header_bytes, header_of, too_large};
-ghost use Rattle.frame.specs.Frame.{destination_of, source_of, type_of, tagged_twice, header_in, at_start, stripped, has_room, tag_into, tag_refusal, strip_refusal, tag_answer, tag_output, strip_answer, strip_output, told_tagging, told_stripping};
+ghost use Rattle.frame.specs.Frame.{destination_of, source_of, type_of, tagged_twice, header_in, at_start, stripped, has_room, tag_into, tag_refusal, strip_refusal, tag_answer, tag_output, strip_answer, strip_output, host_values};
 
-use refusal::{is_outside, or_when};
+use refusal::{Refusal, is_outside};
 
 #[derive(Clone, Copy)]
 pub struct Header {
@@ -50,24 +51,11 @@ impl Frame {
     pub const MAX_HC: u8 = 63;
 }
 
-// The tagged frame's length, or why there is none.
-#[derive(Clone, Copy)]
-pub enum Tagging {
-    Refused(u8),
-    Tagged(usize),
-}
-
+// What stripping gives: the host frame's length, and the header.
 #[derive(Clone, Copy)]
 pub struct Host {
     pub len: usize,
     pub header: Header,
-}
-
-// The host frame's length and the header, or why there are none.
-#[derive(Clone, Copy)]
-pub enum Stripping {
-    Refused(u8),
-    Stripped(Host),
 }
 
 impl Header {
@@ -82,10 +70,7 @@ impl Header {
     fn is_too_large(self) -> bool
         ensures { result ≡ too_large self }
     {
-        if Frame::MAX_HC < self.hc {
-            return true;
-        }
-        Frame::NONCES <= self.nonce
+        Frame::MAX_HC < self.hc || Frame::NONCES <= self.nonce
     }
 
     // The header's four bytes.
@@ -137,10 +122,7 @@ pub fn type_of(frame: &[u8]) -> u64
 pub fn is_tagged_twice(frame: &[u8]) -> bool
     ensures { result ≡ tagged_twice frame.now }
 {
-    if type_of(frame) != Frame::OUR_TYPE {
-        return false;
-    }
-    wire::number_at(frame, Frame::OLD_TYPE, 2) == Frame::OUR_TYPE
+    type_of(frame) == Frame::OUR_TYPE && wire::number_at(frame, Frame::OLD_TYPE, 2) == Frame::OUR_TYPE
 }
 
 // The header of a tagged frame. What is too short for one has the header of four zeros.
@@ -157,32 +139,28 @@ pub fn header_in(frame: &[u8]) -> Header
 fn untagged(n: usize) -> usize
     ensures { result ≡ n - 6 }
 {
-    if n < Frame::TAG { 0 } else { n - Frame::TAG }
+    n.saturating_sub(Frame::TAG)
 }
 
-// The number that tagging is refused with, 0 for none.
-fn tag_refusal(frame: &[u8], h: Header, room: usize) -> u8
-    ensures { result ≡ tag_refusal frame.now h room }
+// Why tagging is refused, where it is.
+#[tactic(auto, unfolding(crate::specs::Frame::tag_refusal))]
+fn check_tag(frame: &[u8], h: Header, room: usize) -> Result<(), Refusal>
+    ensures { refused_as result ≡ tag_refusal frame.now h room }
 {
     let n = frame.len();
-    let r = or_when(0, 4, is_outside(Frame::SHORTEST, Frame::LONGEST, n));
-    let r = or_when(r, 6, type_of(frame) == Frame::OUR_TYPE);
-    let r = or_when(r, 8, h.hc == 0);
-    let r = or_when(r, 10, h.is_too_large());
-    or_when(r, 9, room < n + Frame::TAG)
+    Refusal::BadLength.when(is_outside(Frame::SHORTEST, Frame::LONGEST, n))?;
+    Refusal::TaggedInside.when(type_of(frame) == Frame::OUR_TYPE)?;
+    Refusal::NoHops.when(h.hc == 0)?;
+    Refusal::HeaderTooLarge.when(h.is_too_large())?;
+    Refusal::NoRoom.when(room < n + Frame::TAG)
 }
 
 // Whether a tag can be put in, and what results has room.
+#[tactic(auto, unfolding(crate::specs::Frame::has_room))]
 fn has_room(frame: &[u8], from: usize, room: usize) -> bool
     ensures { result ≡ has_room from frame.now room }
 {
-    if from < Frame::TYPE {
-        return false;
-    }
-    if frame.len() < from {
-        return false;
-    }
-    Frame::OLD_TYPE + (frame.len() - from) <= room
+    Frame::TYPE <= from && from <= frame.len() && Frame::OLD_TYPE + (frame.len() - from) <= room
 }
 
 // A frame's addresses, our type, a header, and what stands from a place on, at the output's start
@@ -201,34 +179,30 @@ pub fn write_tagged(frame: &[u8], from: usize, h: Header, out: &mut [u8])
     }
 }
 
-// The frame with a header, for a cable between switches.
-pub fn tag(frame: &[u8], h: Header, out: &mut [u8]) -> Tagging
-    ensures answer { told_tagging result ≡ tag_answer frame.now h (length out.old) }
+// The frame with a header, for a cable between switches. The answer is the tagged frame's length.
+pub fn tag(frame: &[u8], h: Header, out: &mut [u8]) -> Result<usize, Refusal>
+    ensures answer { told (λ n. n ∷ []) result ≡ tag_answer frame.now h (length out.old) }
     ensures output { out.new ≡ tag_output frame.now h out.old }
 {
-    let n = tag_refusal(frame, h, out.len());
-    if n != 0 {
-        return Tagging::Refused(n);
-    }
+    check_tag(frame, h, out.len())?;
     write_tagged(frame, Frame::TYPE, h, out);
-    Tagging::Tagged(frame.len() + Frame::TAG)
+    Ok(frame.len() + Frame::TAG)
 }
 
-// The number that stripping is refused with, 0 for none.
-fn strip_refusal(frame: &[u8], room: usize) -> u8
-    ensures { result ≡ strip_refusal frame.now room }
+// Why stripping is refused, where it is.
+#[tactic(auto, unfolding(crate::specs::Frame::strip_refusal))]
+fn check_strip(frame: &[u8], room: usize) -> Result<(), Refusal>
+    ensures { refused_as result ≡ strip_refusal frame.now room }
 {
     let n = frame.len();
-    let r = or_when(
-        0,
-        4,
-        is_outside(Frame::SHORTEST + Frame::TAG, Frame::LONGEST + Frame::TAG, n),
-    );
-    let r = or_when(r, 6, is_tagged_twice(frame));
-    let r = or_when(r, 7, type_of(frame) != Frame::OUR_TYPE);
+    let shortest = Frame::SHORTEST + Frame::TAG;
+    let longest = Frame::LONGEST + Frame::TAG;
+    Refusal::BadLength.when(is_outside(shortest, longest, n))?;
+    Refusal::TaggedInside.when(is_tagged_twice(frame))?;
+    Refusal::NotTagged.when(type_of(frame) != Frame::OUR_TYPE)?;
     let h = header_in(frame);
-    let r = or_when(r, 8, h.hc == 0);
-    or_when(r, 9, room < untagged(n))
+    Refusal::NoHops.when(h.hc == 0)?;
+    Refusal::NoRoom.when(room < untagged(n))
 }
 
 // The host frame, at the output's start.
@@ -241,16 +215,13 @@ fn write_stripped(frame: &[u8], out: &mut [u8])
 }
 
 // The host frame and the header of a tagged frame.
-pub fn strip(frame: &[u8], out: &mut [u8]) -> Stripping
-    ensures answer { told_stripping result ≡ strip_answer frame.now (length out.old) }
+pub fn strip(frame: &[u8], out: &mut [u8]) -> Result<Host, Refusal>
+    ensures answer { told host_values result ≡ strip_answer frame.now (length out.old) }
     ensures output { out.new ≡ strip_output frame.now out.old }
 {
-    let n = strip_refusal(frame, out.len());
-    if n != 0 {
-        return Stripping::Refused(n);
-    }
+    check_strip(frame, out.len())?;
     write_stripped(frame, out);
-    Stripping::Stripped(Host {
+    Ok(Host {
         len: untagged(frame.len()),
         header: header_in(frame),
     })

@@ -1,3 +1,4 @@
 pub mod Refusal
+pub mod Number
 pub mod Exact
 pub mod OneOutcome

@@ -1,22 +1,16 @@
-use Rattle.frame.specs.Frame.{tagged}
-use Rattle.frame.proofs.Laws.{into_room}
-use Rattle.frame.proofs.Laws.{taggable}
+-- What is accepted has the room that writing asks for.
+use mathlib.Core.Path.{sym, ap, ◌∙◌}
 use native.Mathlib.Omega.{arith}
-use mathlib.Core.Path.{sym, ◌∙◌}
-use Rattle.refusal.proofs.Laws.{refused_answer, refused_leaves, accepted_answer, accepted_leaves}
+use Rattle.refusal.specs.Number.{refused_as}
+use Rattle.refusal.proofs.Laws.{accepted_leaves}
+use Rattle.frame.specs.Frame.{tagged}
+use Rattle.frame.proofs.Laws.{into_room, taggable}
 use Rattle.frame.proofs.tag.Goals as goal
 
--- A refusal touches nothing; an accepted frame has the room that writing asks for.
-
-pub returns-then-n-ne0 : goal.returns-then-n-ne0
-returns-then-n-ne0 c =
-    let e = c.tag_refusal-n.ensures in
-    record { answer = refused_answer e c.if-n-ne0.true _; output = refused_leaves e c.if-n-ne0.true _ _ }
-
-pub returns : goal.returns
+pub returns-clause-output : goal.returns-clause-output
 unfolding tagged
-returns c =
-    let e = c.tag_refusal-n.ensures in
-    let none = c.if-n-ne0.false in
-    let ok = taggable _ _ _ (sym e ∙ none) in
-    record { answer = accepted_answer e none _; output = c.write_tagged.ensures ∙ into_room 12 _ _ _ (omega arith) (omega arith) (omega arith) ∙ accepted_leaves e none _ _ }
+returns-clause-output c =
+    let e = c.check_tag.ensures in
+    let none = ap refused_as c.in_ok-check_tag.was in
+    let ok = taggable c.args.frame.now c.args.h _ (sym e ∙ none) in
+    c.write_tagged.ensures ∙ into_room 12 _ _ _ (omega arith) (omega arith) (omega arith) ∙ accepted_leaves e none _ _
