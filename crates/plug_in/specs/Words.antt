@@ -1,12 +1,11 @@
 -- The words of the order's demand 3, phrase by phrase, each said of the bench, its events and its answers. A is a host's number and x its address.
 -- A frame is known by its source: A sends one only. Nothing here knows of a flood.
-use Rattle.std.specs.Prelude.{ℕ, ◌+◌, ◌≤◌, ◌<◌, ◌≡◌, ◌≢◌, Bool, true, false, ◌&&◌, eqb, get_or}
+use Rattle.std.specs.Prelude.{ℕ, ◌+◌, ◌≤◌, ◌<◌, ◌≡◌, ◌≢◌, Bool, true, false, ◌&&◌, eqb, get_or, Some, Ok, Err}
 use mathlib.Core.List.{List, [], ◌∷◌, Memᴰ}
 use Rattle.wire.specs.Wire.{bytes_of}
 use Rattle.network.specs.declared.Network.{Network}
 use Rattle.network.specs.declared.Port.{Port}
 use Rattle.network.specs.Network.{limit_of}
-use Rattle.table.specs.declared.Found.TheVariants.{Entry as Here}
 use Rattle.table.specs.declared.Entry.{Entry}
 use Rattle.table.specs.Table.{Holds, lookup_of}
 use Rattle.filter.specs.Filter.{Names, holds}
@@ -22,9 +21,8 @@ use Rattle.flight.specs.Flight.{All}
 use Rattle.event.specs.declared.Event.{Event}
 use Rattle.event.specs.declared.Event.TheVariants.{Present, Take, Link}
 use Rattle.event.specs.Event.{address_of}
-use Rattle.turn.specs.declared.Answer.{Answer}
-use Rattle.turn.specs.declared.Answer.TheVariants.{Refused, Stepped, Linked}
-use Rattle.turn.specs.Turn.{host_of, is_up, plug_of}
+use Rattle.turn.specs.declared.Done.TheVariants.{Stepped, Linked}
+use Rattle.turn.specs.Turn.{Answer, host_of, is_up, plug_of}
 use Rattle.bench.specs.declared.Bench.{Bench}
 use Rattle.bench.specs.Bench.{in_flight, seat_at}
 use Rattle.counters.specs.Event.{event_refusal}
@@ -63,9 +61,9 @@ IsRefused s e = event_refusal s.bench s.counters e ≢ 0
 
 -- the copies of a step whose frame is from x all found room
 abbrev pub LosesNone : ℕ → Answer → Type 0
-LosesNone x (Refused n) = Unit {0}
-LosesNone x (Stepped r) = r.source ≡ x → r.lost ≡ 0
-LosesNone x (Linked cut) = Unit {0}
+LosesNone x (Err n) = Unit {0}
+LosesNone x (Ok (Stepped r)) = r.source ≡ x → r.lost ≡ 0
+LosesNone x (Ok (Linked cut)) = Unit {0}
 
 -- ---- "no filter record of it is overwritten before its last copy has been taken"
 
@@ -92,15 +90,15 @@ LimitsReach n = (k : ℕ) → k < n.nswitches → n.nswitches ≤ limit_of (swit
 
 -- port p of switch k sends a frame from x, by a report
 abbrev pub sends_by : ℕ → ℕ → ℕ → Answer → Bool
-sends_by x k p (Refused n) = false
-sends_by x k p (Stepped r) = eqb r.source x && eqb r.switch k && names (sent_by (sending_of r.verdict)).mask p
-sends_by x k p (Linked cut) = false
+sends_by x k p (Err n) = false
+sends_by x k p (Ok (Stepped r)) = eqb r.source x && eqb r.switch k && names (sent_by (sending_of r.verdict)).mask p
+sends_by x k p (Ok (Linked cut)) = false
 
 -- host i receives a frame from x, by a report
 abbrev pub receives_by : ℕ → ℕ → Answer → Bool
-receives_by x i (Refused n) = false
-receives_by x i (Stepped r) = eqb r.source x && names r.received i
-receives_by x i (Linked cut) = false
+receives_by x i (Err n) = false
+receives_by x i (Ok (Stepped r)) = eqb r.source x && names r.received i
+receives_by x i (Ok (Linked cut)) = false
 
 -- how often it is so in a history
 unfoldable pub times : (Answer → Bool) → List Moment → ℕ
@@ -128,7 +126,7 @@ pub data JoinedTo (b : Bench) (k : ℕ) : ℕ → Type 0 where
 pub record HasRecord (x : ℕ) (b : Bench) (k : ℕ) : Type 0 where
   pub in_stand : k < b.network.nswitches
   pub entry : Entry
-  pub found : lookup_of (seat_at b k).switch.table x ≡ Here entry
+  pub found : lookup_of (seat_at b k).switch.table x ≡ Some entry
 
 -- the way from a switch: the switches that following the recorded ports visits, one after the other, up to the port that A is plugged into
 pub data Way (A x : ℕ) (b : Bench) : ℕ → List ℕ → Type 0 where
