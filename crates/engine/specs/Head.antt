@@ -1,17 +1,14 @@
 -- The head's part of the door: what a C caller lends for a switch, and what each call returns and leaves there.
 -- A switch is lent as its next nonce, its table's three arrays and its filter; what a call does with them is said by the crates below.
-use Rattle.std.specs.Prelude.{ℕ, ◌≡◌, Bool, cond, ◌&&◌, List, [], ◌∷◌, eqb, length}
+use Rattle.std.specs.Prelude.{ℕ, ◌≡◌, Bool, cond, ◌&&◌, List, [], ◌∷◌, eqb, length, Option, Some, None}
 use Rattle.refusal.specs.Refusal.{first, leaves}
 use Rattle.table.specs.declared.Table.{Table}
-use Rattle.table.specs.declared.Found.{Found}
-use Rattle.table.specs.declared.Found.TheVariants.{Entry as Here, Absent}
+use Rattle.table.specs.declared.Entry.{Entry}
 use Rattle.table.specs.Table.{empty_table, lookup_of, slots, table_of}
 use Rattle.filter.specs.Filter.{zeros}
 use Rattle.rules.specs.declared.Setup.{Setup}
 use Rattle.rules.specs.Rules.{on_host_port}
 use Rattle.rules.specs.Verdict.{report_values, sending_of}
-use Rattle.head.specs.declared.Answer.{Answer}
-use Rattle.head.specs.declared.Answer.TheVariants.{Refused, Done}
 use Rattle.head.specs.declared.Switch.{Switch}
 use Rattle.head.specs.Switch.{switch_causes}
 use Rattle.head.specs.Step.{refusal, ruled, switch_after, switch_of, written}
@@ -68,9 +65,9 @@ pub record FreshensLent (n : ℕ) (s : Switch) (f : List ℕ) (returned : ℕ) (
 -- ---- Looking at a table
 
 -- whether an address is there, its port and its hop count: all 0 where it isn't
-abbrev pub found_values : Found → List ℕ
-found_values (Here e) = 1 ∷ e.port ∷ e.hops ∷ []
-found_values Absent = 0 ∷ 0 ∷ 0 ∷ []
+abbrev pub found_values : Option Entry → List ℕ
+found_values (Some e) = 1 ∷ e.port ∷ e.hops ∷ []
+found_values None = 0 ∷ 0 ∷ 0 ∷ []
 
 -- 1 for a table of wrong length
 unfoldable pub lookup_refusal : Table → ℕ
@@ -80,15 +77,3 @@ lookup_refusal t = cond (sized t) 0 1
 pub record LooksUp (t : Table) (x : ℕ) (held : List ℕ) (returned : ℕ) (held' : List ℕ) : Type 0 where
   pub number : returned ≡ lookup_refusal t
   pub told : held' ≡ leaves (lookup_refusal t) held (found_values (lookup_of t x))
-
--- ---- Words of the code
-
--- an answer's number
-abbrev pub number_in : Answer → ℕ
-number_in (Refused n) = n
-number_in (Done r) = 0
-
--- what an answer leaves of the report
-abbrev pub report_in : Answer → List ℕ → List ℕ
-report_in (Refused n) report = report
-report_in (Done r) report = report_values r

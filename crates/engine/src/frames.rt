@@ -2,11 +2,10 @@
 ghost use Rattle.std.specs.Prelude.{[], ◌∷◌};
 ghost use Rattle.engine.specs.Frames.{StripsLent, TagsLent, header_of4};
 
-use frame::{Header, Stripping, Tagging};
+use frame::Header;
 
 // The frame with a header, for a cable between switches.
-#[unsafe(no_mangle)]
-pub extern "C" fn sc_tag(
+pub fn sc_tag(
     frame: &[u8],
     l: bool,
     f: bool,
@@ -17,10 +16,9 @@ pub extern "C" fn sc_tag(
 ) -> u8
     ensures { TagsLent frame.now (header_of4 l f hc nonce) out.old (length.old ∷ []) result out.new (length.new ∷ []) }
 {
-    let tagging = frame::tag(frame, Header { l, f, hc, nonce }, out);
-    match tagging {
-        Tagging::Refused(n) => n,
-        Tagging::Tagged(n) => {
+    match frame::tag(frame, Header { l, f, hc, nonce }, out) {
+        Err(r) => r.number(),
+        Ok(n) => {
             *length = n;
             0
         }
@@ -28,8 +26,7 @@ pub extern "C" fn sc_tag(
 }
 
 // The host frame and the header of a tagged frame.
-#[unsafe(no_mangle)]
-pub extern "C" fn sc_strip(
+pub fn sc_strip(
     frame: &[u8],
     out: &mut [u8],
     length: &mut usize,
@@ -40,10 +37,9 @@ pub extern "C" fn sc_strip(
 ) -> u8
     ensures { StripsLent frame.now out.old (length.old ∷ l.old ∷ f.old ∷ hc.old ∷ nonce.old ∷ []) result out.new (length.new ∷ l.new ∷ f.new ∷ hc.new ∷ nonce.new ∷ []) }
 {
-    let stripping = frame::strip(frame, out);
-    match stripping {
-        Stripping::Refused(n) => n,
-        Stripping::Stripped(host) => {
+    match frame::strip(frame, out) {
+        Err(r) => r.number(),
+        Ok(host) => {
             let h = host.header;
             *length = host.len;
             *l = h.l as u8;

@@ -1,39 +1,35 @@
 // A head's switch, lent as its next nonce, its table's three arrays and its filter.
-ghost use Rattle.std.specs.Prelude.{[], ◌∷◌, ◌≡◌, length};
-ghost use Rattle.table.specs.Table.{Sized, empty_table, table_of};
+ghost use Rattle.std.specs.Prelude.{[], ◌∷◌, ◌≡◌, cond, length, None, Some};
+ghost use Rattle.refusal.specs.Number.{refused_as};
+ghost use Rattle.table.specs.Table.{table_of};
 ghost use Rattle.rules.specs.Verdict.{report_values};
-ghost use Rattle.engine.specs.Head.{FreshensLent, LooksUp, StepsLent, fitting, fresh_refusal, number_in, report_in, report_size, setup_refusal, sized, step_refusal, switch_in};
+ghost use Rattle.engine.specs.Head.{FreshensLent, LooksUp, StepsLent, fresh_refusal, setup_refusal, sized, step_refusal, switch_in};
 
-use crate::numbers::{clear, put};
-use head::Answer;
-use head::causes::switch_refusal;
-use head::inner::step_in;
+use head::Switch;
+use refusal::Refusal;
 use rules::{Report, Setup, letter_of, sent_by};
-use table::{Found, Table, lookup_in};
+use table::{Entry, Table};
 
 const REPORT: usize = 8;
 
-// Whether the table's arrays have their 64 elements each.
-fn is_sized(addresses: &[u64], via: &[u8], hops: &[u8]) -> bool
-    ensures { result ≡ sized (table_of addresses.now via.now hops.now) }
+// The table of three arrays that are lent, where these have their 64 elements each.
+fn table_in(addresses: &[u64], via: &[u8], hops: &[u8]) -> Option<Table>
+    ensures { result ≡ cond (sized (table_of addresses.now via.now hops.now)) (Some (table_of addresses.now via.now hops.now)) None }
 {
-    if addresses.len() != Table::SLOTS {
-        return false;
-    }
-    if via.len() != Table::SLOTS {
-        return false;
-    }
-    hops.len() == Table::SLOTS
-}
-
-// Whether the report's array has its 8, too.
-fn fits(addresses: &[u64], via: &[u8], hops: &[u8], numbers: usize) -> bool
-    ensures { result ≡ fitting (table_of addresses.now via.now hops.now) numbers }
-{
-    if is_sized(addresses, via, hops) {
-        return numbers == REPORT;
-    }
-    false
+    let Ok(addresses) = <[u64; Table::SLOTS]>::try_from(addresses) else {
+        return None;
+    };
+    let Ok(ports) = <[u8; Table::SLOTS]>::try_from(via) else {
+        return None;
+    };
+    let Ok(hops) = <[u8; Table::SLOTS]>::try_from(hops) else {
+        return None;
+    };
+    Some(Table {
+        addresses,
+        ports,
+        hops,
+    })
 }
 
 // A report's numbers.
@@ -55,25 +51,8 @@ fn numbers_of(r: Report) -> [u64; REPORT]
     ]
 }
 
-// Gives an answer's number, and its report through what was lent for it.
-fn tell(answer: Answer, report: &mut [u64]) -> u8
-    requires { length report.old ≡ report_size }
-    ensures number { result ≡ number_in answer }
-    ensures report { report.new ≡ report_in answer report.old }
-{
-    match answer {
-        Answer::Refused(n) => n,
-        Answer::Done(r) => {
-            let numbers = numbers_of(r);
-            put(report, &numbers);
-            0
-        }
-    }
-}
-
 // One step of a switch: a frame on a port.
-#[unsafe(no_mangle)]
-pub extern "C" fn sc_step(
+pub fn sc_step(
     ports: u8,
     live: u16,
     host: u16,
@@ -91,56 +70,56 @@ pub extern "C" fn sc_step(
 ) -> u8
     ensures { StepsLent (step_refusal (switch_in ports live host limit salt nonce.old addresses.old via.old hops.old) filter.old port frame.now (length out.old) (length report.old)) (switch_in ports live host limit salt nonce.old addresses.old via.old hops.old) filter.old port frame.now out.old report.old result (switch_in ports live host limit salt nonce.new addresses.new via.new hops.new) filter.new out.new report.new }
 {
-    if fits(addresses, via, hops, report.len()) {
-        let setup = Setup {
-            ports,
-            live,
-            host,
-            limit,
-            salt,
-        };
-        let turn = step_in(
-            setup, *nonce, addresses, via, hops, filter, port, frame, out,
-        );
-        let answer = turn.answer;
-        *nonce = turn.nonce;
-        return tell(answer, report);
+    let Some(table) = table_in(addresses, via, hops) else {
+        return 1;
+    };
+    if report.len() != REPORT {
+        return 1;
     }
-    1
+    let setup = Setup {
+        ports,
+        live,
+        host,
+        limit,
+        salt,
+    };
+    let mut switch = Switch {
+        setup,
+        nonce: *nonce,
+        table,
+    };
+    match switch.step(filter, port, frame, out) {
+        Err(r) => r.number(),
+        Ok(r) => {
+            *nonce = switch.nonce;
+            addresses.copy_from_slice(&switch.table.addresses);
+            via.copy_from_slice(&switch.table.ports);
+            hops.copy_from_slice(&switch.table.hops);
+            report.copy_from_slice(&numbers_of(r));
+            0
+        }
+    }
 }
 
 // The bytes of the longest filter.
 const CELLS: usize = 2560;
 
-// The refusal of a fresh switch with a filter of so many bytes: 1, or 0.
-fn setup_refusal(s: Setup, bytes: usize) -> u8
-    ensures { result ≡ setup_refusal s bytes }
+// The refusal of a fresh switch with a filter of so many bytes: 1.
+fn check_setup(setup: Setup, bytes: usize) -> Result<(), Refusal>
+    ensures { refused_as result ≡ setup_refusal setup bytes }
 {
-    if CELLS < bytes {
-        return 1;
-    }
-    let table = Table::empty();
-    let addresses = table.addresses;
-    let via = table.ports;
-    let hops = table.hops;
+    Refusal::IllFormed.when(CELLS < bytes)?;
+    let switch = Switch {
+        setup,
+        nonce: 0,
+        table: Table::empty(),
+    };
     let cells = [0u8; CELLS];
-    switch_refusal(s, 0, &addresses, &via, &hops, &cells[..bytes])
-}
-
-// Empties a table.
-fn clear_table(addresses: &mut [u64], via: &mut [u8], hops: &mut [u8])
-    requires { Sized (table_of addresses.old via.old hops.old) }
-    ensures { table_of addresses.new via.new hops.new ≡ empty_table }
-{
-    let none = [0u64; Table::SLOTS];
-    put(addresses, &none);
-    clear(via);
-    clear(hops);
+    switch.check(&cells[..bytes])
 }
 
 // Makes a switch that has met no frame: table and filter empty, next nonce 0.
-#[unsafe(no_mangle)]
-pub extern "C" fn sc_switch_fresh(
+pub fn sc_switch_fresh(
     ports: u8,
     live: u16,
     host: u16,
@@ -154,29 +133,29 @@ pub extern "C" fn sc_switch_fresh(
 ) -> u8
     ensures { FreshensLent (fresh_refusal (switch_in ports live host limit salt nonce.old addresses.old via.old hops.old) filter.old) (switch_in ports live host limit salt nonce.old addresses.old via.old hops.old) filter.old result (switch_in ports live host limit salt nonce.new addresses.new via.new hops.new) filter.new }
 {
-    if is_sized(addresses, via, hops) {
-        let setup = Setup {
-            ports,
-            live,
-            host,
-            limit,
-            salt,
-        };
-        let n = setup_refusal(setup, filter.len());
-        if n != 0 {
-            return n;
-        }
-        *nonce = 0;
-        clear_table(addresses, via, hops);
-        clear(filter);
-        return 0;
+    if table_in(addresses, via, hops).is_none() {
+        return 1;
     }
-    1
+    let setup = Setup {
+        ports,
+        live,
+        host,
+        limit,
+        salt,
+    };
+    if let Err(r) = check_setup(setup, filter.len()) {
+        return r.number();
+    }
+    *nonce = 0;
+    addresses.fill(0);
+    via.fill(0);
+    hops.fill(0);
+    filter.fill(0);
+    0
 }
 
 // What a table has of an address.
-#[unsafe(no_mangle)]
-pub extern "C" fn sc_lookup(
+pub fn sc_lookup(
     addresses: &[u64],
     via: &[u8],
     hops: &[u8],
@@ -187,22 +166,13 @@ pub extern "C" fn sc_lookup(
 ) -> u8
     ensures { LooksUp (table_of addresses.now via.now hops.now) address (found.old ∷ port.old ∷ hc.old ∷ []) result (found.new ∷ port.new ∷ hc.new ∷ []) }
 {
-    if is_sized(addresses, via, hops) {
-        let answer = lookup_in(addresses, via, hops, address);
-        match answer {
-            Found::Entry(e) => {
-                *found = 1;
-                *port = e.port;
-                *hc = e.hops;
-                return 0;
-            }
-            Found::Absent => {
-                *found = 0;
-                *port = 0;
-                *hc = 0;
-                return 0;
-            }
-        }
-    }
-    1
+    let Some(table) = table_in(addresses, via, hops) else {
+        return 1;
+    };
+    let entry = table.lookup(address);
+    *found = entry.is_some() as u8;
+    let e = entry.unwrap_or(Entry { port: 0, hops: 0 });
+    *port = e.port;
+    *hc = e.hops;
+    0
 }

@@ -1,6 +1,8 @@
 -- Document 01, "One step": its refusals, and what it leaves of switch, filter and output. `room` is the output's length.
-use Rattle.std.specs.Prelude.{ℕ, ◌+◌, ◌-◌, ◌≤◌, Bool, cond, not, ◌&&◌, ◌≡◌, List, [], ◌∷◌, ◌++◌, eqb, ltb, leb, length}
-use Rattle.refusal.specs.Refusal.{Cause, when, first, outside, Told, answered, leaves}
+use Rattle.std.specs.Prelude.{ℕ, ◌+◌, ◌-◌, ◌≤◌, Bool, cond, not, ◌&&◌, ◌≡◌, List, [], ◌∷◌, ◌++◌, eqb, ltb, leb, length, Option, Some, None, Result}
+use Rattle.refusal.specs.Refusal.{Cause, when, first, outside, answered, leaves}
+use Rattle.refusal.specs.Number.{told}
+use Rattle.refusal.specs.declared.Refusal.{Refusal}
 use Rattle.table.specs.declared.Table.{Table}
 use Rattle.wire.specs.Address.{is_source}
 use Rattle.frame.specs.declared.Header.{Header}
@@ -11,10 +13,8 @@ use Rattle.rules.specs.Verdict.{report_values, sending_of}
 use Rattle.rules.specs.Rules.{on_host_port, rule1, nonce_on, Ruled, rules}
 use Rattle.rules.specs.declared.Setup.{Setup}
 use Rattle.head.specs.declared.Switch.{Switch}
-use Rattle.head.specs.declared.Answer.{Answer}
-use Rattle.head.specs.declared.Answer.TheVariants.{Refused, Done}
-use Rattle.rules.specs.declared.Sending.{Sending}
-use Rattle.rules.specs.declared.Sending.TheVariants.{Nothing, Copies}
+use Rattle.rules.specs.declared.Send.{Send}
+use Rattle.rules.specs.declared.Report.{Report}
 
 -- ---- Refusals
 
@@ -71,13 +71,6 @@ refusal s f port frame room = first (switch_causes s f ++ frame_causes s.setup p
 unfoldable pub refusal_but1 : Setup → ℕ → List ℕ → ℕ → ℕ
 refusal_but1 s port frame room = first (frame_causes s port frame room)
 
--- ---- The answer's number and values
-
--- a refusal has its number alone, a report its values
-abbrev pub told_answer : Answer → Told
-told_answer (Refused n) = record { number = n; values = [] }
-told_answer (Done r) = record { number = 0; values = report_values r }
-
 -- ---- The step
 
 -- rule 1, then the others
@@ -89,9 +82,9 @@ abbrev pub outgoing : Bool → List ℕ → Header → List ℕ
 outgoing host frame h = cond host (tagged frame h) (tagged (stripped frame) h)
 
 -- after a sending verdict the output holds the tagged frame at its start, the rest unchanged; after a drop it is unchanged
-abbrev pub written : Bool → List ℕ → Sending → List ℕ → List ℕ
-written host frame Nothing out = out
-written host frame (Copies s) out = at_start (outgoing host frame s.header) out
+abbrev pub written : Bool → List ℕ → Option Send → List ℕ → List ℕ
+written host frame None out = out
+written host frame (Some s) out = at_start (outgoing host frame s.header) out
 
 -- the switch afterwards: its table as the rules left it, and the next nonce
 abbrev pub switch_after : Switch → ℕ → Ruled → Switch
@@ -102,8 +95,8 @@ abbrev pub switch_of : Setup → ℕ → Table → Switch
 switch_of setup nonce table = record { setup = setup; nonce = nonce; table = table }
 
 -- what a step answers and leaves, n being its refusal number, 0 for none
-pub record Steps (n : ℕ) (s : Switch) (f : List ℕ) (port : ℕ) (frame out : List ℕ) (answer : Answer) (s' : Switch) (f' out' : List ℕ) : Type 0 where
-  pub told : told_answer answer ≡ answered n (report_values (ruled s f port frame).report)
+pub record Steps (n : ℕ) (s : Switch) (f : List ℕ) (port : ℕ) (frame out : List ℕ) (answer : Result Report Refusal) (s' : Switch) (f' out' : List ℕ) : Type 0 where
+  pub told : told report_values answer ≡ answered n (report_values (ruled s f port frame).report)
   pub switch : s' ≡ leaves n s (switch_after s port (ruled s f port frame))
   pub filter : f' ≡ leaves n f (ruled s f port frame).filter
   pub output : out' ≡ leaves n out (written (on_host_port s.setup port) frame (sending_of (ruled s f port frame).report.verdict) out)

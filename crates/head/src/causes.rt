@@ -1,13 +1,14 @@
 // The refusals of a step, 1 to 9, one row for each cause in the document's order. No row needs
 // what a row before it found: each takes every input.
 ghost use Rattle.std.specs.Prelude.{◌≡◌, ◌^◌, leb, length};
+ghost use Rattle.refusal.specs.Number.{refused_as};
 ghost use Rattle.refusal.specs.Refusal.{first};
-ghost use Rattle.table.specs.Table.{Sized, table_of};
 ghost use Rattle.head.specs.Switch.{switch_causes};
 ghost use Rattle.head.specs.Step as spec;
 
+use crate::Switch;
 use frame::Frame;
-use refusal::{is_outside, or_when};
+use refusal::{Refusal, is_outside};
 use rules::Setup;
 use rules::masks::has_port;
 
@@ -15,35 +16,23 @@ use rules::masks::has_port;
 fn names_beyond(ports: u8, mask: u16) -> bool
     ensures { result ≡ leb (2 ^ ports) mask }
 {
-    if 16 <= ports {
-        return false;
-    }
-    1u16 << (ports as u16) <= mask
+    ports < 16 && 1u16 << (ports as u16) <= mask
 }
 
-// Refusal 1, or 0.
-pub fn switch_refusal(
-    s: Setup,
-    nonce: u32,
-    addresses: &[u64],
-    ports: &[u8],
-    hops: &[u8],
-    filter: &[u8],
-) -> u8
-    requires { Sized (table_of addresses.now ports.now hops.now) }
-    ensures { result ≡ first (switch_causes (spec.switch_of s nonce (table_of addresses.now ports.now hops.now)) filter.now) }
-{
-    let r = or_when(0, 1, is_outside(1, 16, s.ports as usize));
-    let r = or_when(r, 1, names_beyond(s.ports, s.live));
-    let r = or_when(r, 1, names_beyond(s.ports, s.host));
-    let r = or_when(r, 1, is_outside(1, 62, s.limit as usize));
-    let r = or_when(r, 1, Frame::NONCES <= nonce);
-    let r = or_when(
-        r,
-        1,
-        !table::is_well_formed_in(addresses, ports, hops, s.ports),
-    );
-    or_when(r, 1, !filter::is_well_formed(filter))
+impl Switch {
+    // Refusal 1.
+    pub fn check(&self, filter: &[u8]) -> Result<(), Refusal>
+        ensures { refused_as result ≡ first (switch_causes self.now filter.now) }
+    {
+        let s = self.setup;
+        Refusal::IllFormed.when(is_outside(1, 16, s.ports as usize))?;
+        Refusal::IllFormed.when(names_beyond(s.ports, s.live))?;
+        Refusal::IllFormed.when(names_beyond(s.ports, s.host))?;
+        Refusal::IllFormed.when(is_outside(1, 62, s.limit as usize))?;
+        Refusal::IllFormed.when(Frame::NONCES <= self.nonce)?;
+        Refusal::IllFormed.when(!self.table.is_well_formed(s.ports))?;
+        Refusal::IllFormed.when(!filter::is_well_formed(filter))
+    }
 }
 
 // Cause 4.
@@ -70,21 +59,14 @@ fn has_tag_inside(host: bool, frame: &[u8]) -> bool
 fn lacks_tag(host: bool, frame: &[u8]) -> bool
     ensures { result ≡ spec.lacks_tag host frame.now }
 {
-    if host {
-        return false;
-    }
-    frame::type_of(frame) != Frame::OUR_TYPE
+    !host && frame::type_of(frame) != Frame::OUR_TYPE
 }
 
 // Cause 8.
 fn has_no_hops(host: bool, frame: &[u8]) -> bool
     ensures { result ≡ spec.no_hops host frame.now }
 {
-    if host {
-        return false;
-    }
-    let h = frame::header_in(frame);
-    h.hc == 0
+    !host && frame::header_in(frame).hc == 0
 }
 
 // Cause 9.
@@ -97,17 +79,18 @@ fn is_too_short(host: bool, frame: &[u8], room: usize) -> bool
     room < frame.len()
 }
 
-// Refusals 2 to 9, or 0.
-pub fn frame_refusal(s: Setup, port: u8, frame: &[u8], room: usize) -> u8
-    ensures { result ≡ spec.refusal_but1 s port frame.now room }
+// Refusals 2 to 9.
+#[tactic(auto, unfolding(crate::specs::Step::refusal_but1))]
+pub fn check_frame(s: Setup, port: u8, frame: &[u8], room: usize) -> Result<(), Refusal>
+    ensures { refused_as result ≡ spec.refusal_but1 s port frame.now room }
 {
     let host = has_port(s.host, port);
-    let r = or_when(0, 2, s.ports <= port);
-    let r = or_when(r, 3, !has_port(s.live, port));
-    let r = or_when(r, 4, is_bad_length(host, frame.len()));
-    let r = or_when(r, 5, !wire::is_source(frame::source_of(frame)));
-    let r = or_when(r, 6, has_tag_inside(host, frame));
-    let r = or_when(r, 7, lacks_tag(host, frame));
-    let r = or_when(r, 8, has_no_hops(host, frame));
-    or_when(r, 9, is_too_short(host, frame, room))
+    Refusal::NoSuchPort.when(s.ports <= port)?;
+    Refusal::PortDown.when(!has_port(s.live, port))?;
+    Refusal::BadLength.when(is_bad_length(host, frame.len()))?;
+    Refusal::BadSource.when(!wire::is_source(frame::source_of(frame)))?;
+    Refusal::TaggedInside.when(has_tag_inside(host, frame))?;
+    Refusal::NotTagged.when(lacks_tag(host, frame))?;
+    Refusal::NoHops.when(has_no_hops(host, frame))?;
+    Refusal::NoRoom.when(is_too_short(host, frame, room))
 }

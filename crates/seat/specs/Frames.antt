@@ -1,6 +1,6 @@
 -- "Frames have no payload here" (document 01, "The bench"): the frames that addresses and a header stand for on the bench.
 -- The statements say that a seat steps on what arrives as demand 2's public step does on such a frame; their proofs are in proofs/Frames.antt.
-use Rattle.std.specs.Prelude.{ℕ, ◌^◌, ◌≤◌, ◌<◌, ◌≡◌, Bool, true, false, List, ◌++◌, length}
+use Rattle.std.specs.Prelude.{ℕ, ◌^◌, ◌≤◌, ◌<◌, ◌≡◌, Bool, true, false, List, ◌++◌, length, Ok}
 use Rattle.wire.specs.Address.{Source, address_bound}
 use Rattle.wire.specs.Wire.{bytes_of}
 use Rattle.filter.specs.Filter.{zeros}
@@ -10,7 +10,6 @@ use Rattle.rules.specs.Mask.{names}
 use Rattle.rules.specs.Rules.{on_host_port}
 use Rattle.rules.specs.Verdict.{sending_of}
 use Rattle.head.specs.Step.{Steps, outgoing, refusal, written}
-use Rattle.head.specs.declared.Answer.TheVariants.{Done}
 use Rattle.seat.specs.Seat.{Seated, from_host, from_link, step_of}
 use Rattle.seat.specs.Words.{Formed}
 use Rattle.seat.specs.declared.Seat.{Seat}
@@ -37,7 +36,7 @@ pub record IsTheStep (s : Seat) (port : ℕ) (frame : List ℕ) (after : Seated)
   pub accepted : (room : ℕ) → 66 ≤ room → refusal s.switch s.cells port frame room ≡ 0
   pub steps : (out : List ℕ) → 66 ≤ length out
       → Steps (refusal s.switch s.cells port frame (length out)) s.switch s.cells port frame out
-      (Done after.report) after.seat.switch after.seat.cells
+      (Ok after.report) after.seat.switch after.seat.cells
       (written (on_host_port s.switch.setup port) frame (sending_of after.report.verdict) out)
 
 -- a seat that refusal 1 doesn't name steps as the public step does, on what a host presents at a live port of its own
