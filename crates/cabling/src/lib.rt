@@ -10,9 +10,9 @@ ghost use Rattle.network.specs.Network.{most_hosts, most_links};
 ghost use Rattle.rules.specs.Mask.{only};
 ghost use Rattle.cabling.specs.Cabling.{is_hosts, is_live, most_ports, other_end, place_of, plug_all, plug_at, plug_host, plug_in, plug_link, plugs_of, port_of, setup_of};
 
-use network::places::{nth_link, nth_switch};
-use network::{Host, Link, Network, Port, Switch};
+use network::{Network, Port, Switch};
 use rules::Setup;
+use rules::masks::only_port;
 
 // One end of a link.
 #[derive(Clone, Copy)]
@@ -38,16 +38,6 @@ const FIRST_HOST: u8 = 1;
 
 const FIRST_LINK: u8 = 33;
 
-// The lesser of two numbers.
-fn at_most(count: u8, most: u8) -> u8
-    ensures { result ≡ min count most }
-{
-    if count < most {
-        return count;
-    }
-    most
-}
-
 // Where the number of a switch's port is kept.
 fn place_of(switch: u8, port: u8) -> usize
     ensures { result ≡ switch * most_ports + port }
@@ -60,49 +50,40 @@ fn mark(plugs: &mut [u8], p: Port, number: u8)
     ensures { plugs.new ≡ set plugs.old (place_of p) number }
 {
     let place = place_of(p.switch, p.number);
-    if plugs.len() <= place {
-        return;
+    if place < plugs.len() {
+        plugs[place] = number;
     }
-    plugs[place] = number;
 }
 
-// Each of the first so many hosts is plugged in.
-fn plug_hosts(hosts: [Host; Network::HOSTS], count: u8, plugs: &mut [u8])
-    requires { count ≤ most_hosts }
-    ensures { plugs.new ≡ plug_all (plug_host hosts) count plugs.old }
+// Each host is plugged in.
+fn plug_hosts(n: &Network, plugs: &mut [u8])
+    ensures { plugs.new ≡ plug_all (plug_host n.now.hosts) (min n.now.nhosts most_hosts) plugs.old }
 {
-    let mut i: u8 = 0;
-    while i < count {
-        let h = hosts[i as usize];
+    for i in 0..n.nhosts.min(Network::HOSTS as u8) {
+        let h = n.hosts[i as usize];
         mark(plugs, h.port, FIRST_HOST + i);
-        i += 1;
     }
 }
 
-// Each of the first so many links is plugged in, at both ends.
-fn plug_links(links: [Link; Network::LINKS], count: u8, plugs: &mut [u8])
-    requires { count ≤ most_links }
-    ensures { plugs.new ≡ plug_all (plug_link links) count plugs.old }
+// Each link is plugged in, at both ends.
+fn plug_links(n: &Network, plugs: &mut [u8])
+    ensures { plugs.new ≡ plug_all (plug_link n.now.links) (min n.now.nlinks most_links) plugs.old }
 {
-    let mut i: u8 = 0;
-    while i < count {
-        let l = links[i as usize];
+    for i in 0..n.nlinks.min(Network::LINKS as u8) {
+        let l = n.links[i as usize];
         let number = FIRST_LINK + 2 * i;
         mark(plugs, l.first, number);
         mark(plugs, l.second, number + 1);
-        i += 1;
     }
 }
 
 // What is plugged into each port, as one number.
-pub fn plugs_of(n: Network) -> [u8; PLACES]
-    ensures { result ≡ plugs_of n }
+pub fn plugs_of(n: &Network) -> [u8; PLACES]
+    ensures { result ≡ plugs_of n.now }
 {
     let mut plugs = [0u8; PLACES];
-    let hosts = n.hosts;
-    plug_hosts(hosts, at_most(n.nhosts, Network::HOSTS as u8), &mut plugs);
-    let links = n.links;
-    plug_links(links, at_most(n.nlinks, Network::LINKS as u8), &mut plugs);
+    plug_hosts(n, &mut plugs);
+    plug_links(n, &mut plugs);
     plugs
 }
 
@@ -146,10 +127,7 @@ fn is_live(up: &[bool], plug: Plug) -> bool
         Plug::Host(_) => true,
         Plug::Link(e) => {
             let link = e.link as usize;
-            if link < up.len() {
-                return up[link];
-            }
-            false
+            link < up.len() && up[link]
         }
     }
 }
@@ -158,11 +136,7 @@ fn is_live(up: &[bool], plug: Plug) -> bool
 fn is_hosts(plug: Plug) -> bool
     ensures { result ≡ is_hosts plug }
 {
-    match plug {
-        Plug::Open => false,
-        Plug::Host(_) => true,
-        Plug::Link(_) => false,
-    }
+    matches!(plug, Plug::Host(_))
 }
 
 // The port's bit, if it is to be set.
@@ -170,28 +144,21 @@ fn bit_of(is: bool, port: u8) -> u16
     requires { port < 16 }
     ensures { result ≡ cond is (only port) 0 }
 {
-    if is {
-        return rules::masks::only_port(port);
-    }
-    0
+    if is { only_port(port) } else { 0 }
 }
 
 // The setup that a switch has with these links up. No cable is at a port from 8 on, so that such
 // ports are in no mask.
-pub fn setup_of(n: Network, plugs: &[u8], up: &[bool], switch: u8) -> Setup
-    ensures { result ≡ setup_of n plugs.now up.now switch }
+pub fn setup_of(n: &Network, plugs: &[u8], up: &[bool], switch: u8) -> Setup
+    ensures { result ≡ setup_of n.now plugs.now up.now switch }
 {
-    let switches = n.switches;
-    let s = nth_switch(switches, switch as usize);
-    let count = at_most(s.ports, Switch::PORTS);
+    let s = n.switch(switch as usize);
     let mut live: u16 = 0;
     let mut host: u16 = 0;
-    let mut p: u8 = 0;
-    while p < count {
+    for p in 0..s.ports.min(Switch::PORTS) {
         let plug = plug_at(plugs, switch, p);
         live += bit_of(is_live(up, plug), p);
         host += bit_of(is_hosts(plug), p);
-        p += 1;
     }
     Setup {
         ports: s.ports,
@@ -203,15 +170,11 @@ pub fn setup_of(n: Network, plugs: &[u8], up: &[bool], switch: u8) -> Setup
 }
 
 // The port at an end of a link.
-pub fn port_of(n: Network, e: End) -> Port
-    ensures { result ≡ port_of n e }
+pub fn port_of(n: &Network, e: End) -> Port
+    ensures { result ≡ port_of n.now e }
 {
-    let links = n.links;
-    let l = nth_link(links, e.link as usize);
-    if e.second {
-        return l.second;
-    }
-    l.first
+    let l = n.link(e.link as usize);
+    if e.second { l.second } else { l.first }
 }
 
 // The link's other end.

@@ -80,11 +80,9 @@ pub fn take_out(words: &mut [[u64; 3]], n: usize, place: usize)
     requires { (place < n) × (n ≤ length words.old) }
     ensures { TakenOut place n words.old words.new }
 {
-    let mut i = place + 1;
-    while i < n {
+    for i in place + 1..n {
         let w = words[i];
         words[i - 1] = w;
-        i += 1;
     }
 }
 
@@ -94,10 +92,8 @@ pub fn cut(words: &mut [[u64; 3]], n: usize, link: u8) -> usize
     ensures { Cut link n words.old words.new result }
 {
     let mut left: usize = 0;
-    let mut i: usize = 0;
-    while i < n {
+    for i in 0..n {
         let w = words[i];
-        i += 1;
         // The link is in the lowest bits.
         if w[2] % 0x100 == link as u64 {
             continue;
@@ -122,23 +118,20 @@ pub fn copy_at(words: &[[u64; 3]], place: usize) -> Copy
     ensures { result ≡ copy_at words.now place }
 {
     if place < words.len() {
-        let w = words[place];
-        return Copy::unpacked(w);
+        Copy::unpacked(words[place])
+    } else {
+        Copy::empty()
     }
-    Copy::empty()
 }
 
 // The words of the first n copies, zeros behind them.
-pub fn words_of(copies: [Copy; Copy::MOST], n: usize) -> [[u64; 3]; Copy::MOST]
+pub fn words_of(copies: &[Copy; Copy::MOST], n: usize) -> [[u64; 3]; Copy::MOST]
     requires { n ≤ most }
-    ensures { Worded n copies result }
+    ensures { Worded n copies.now result }
 {
     let mut words = [[0u64; 3]; Copy::MOST];
-    let mut i: usize = 0;
-    while i < n {
-        let c = copies[i];
-        words[i] = c.packed();
-        i += 1;
+    for i in 0..n {
+        words[i] = copies[i].packed();
     }
     words
 }
@@ -148,13 +141,9 @@ pub fn copies_of(words: &[[u64; 3]], n: usize) -> [Copy; Copy::MOST]
     requires { (n ≤ length words.now) × (n ≤ most) }
     ensures { result ≡ copies_in n words.now ++ replicate (most - n) no_copy }
 {
-    let none = Copy::empty();
-    let mut copies = [none; Copy::MOST];
-    let mut i: usize = 0;
-    while i < n {
-        let w = words[i];
-        copies[i] = Copy::unpacked(w);
-        i += 1;
+    let mut copies = [Copy::empty(); Copy::MOST];
+    for i in 0..n {
+        copies[i] = Copy::unpacked(words[i]);
     }
     copies
 }

@@ -1,12 +1,11 @@
 -- What becomes of the copies of a step: a host port's host receives one, a link carries one to its other end, in ascending port order while there is room.
 -- `send_out` says it port by port, `new_copies`, `Adds` and `Reaches` all at once; proofs/Laws says that it is the same.
-use Rattle.std.specs.Prelude.{ℕ, zero, suc, ◌+◌, ◌-◌, ◌^◌, ◌≤◌, ◌<◌, ◌≡◌, ◌⊎◌, true, cond, List, [], ◌∷◌, ◌++◌, ltb, drop, get_or, length, take}
+use Rattle.std.specs.Prelude.{ℕ, zero, suc, ◌+◌, ◌-◌, ◌^◌, ◌≤◌, ◌<◌, ◌≡◌, ◌⊎◌, true, cond, Option, Some, None, List, [], ◌∷◌, ◌++◌, ltb, drop, get_or, length, take}
 use Rattle.std.specs.Int.Bits.{bit_or}
 use Rattle.frame.specs.declared.Header.{Header}
 use Rattle.rules.specs.Mask.{names}
 use Rattle.rules.specs.declared.Arrival.{Arrival}
-use Rattle.rules.specs.declared.Sending.{Sending}
-use Rattle.rules.specs.declared.Sending.TheVariants.{Nothing, Copies}
+use Rattle.rules.specs.declared.Send.{Send}
 use Rattle.cabling.specs.declared.End.{End}
 use Rattle.cabling.specs.declared.Plug.{Plug}
 use Rattle.cabling.specs.declared.Plug.TheVariants.{Open, Host, Link}
@@ -29,6 +28,10 @@ outbox flying s = record { flying = flying; received = s.received; placed = s.pl
 -- before anything is sent
 abbrev pub nothing_sent : List Copy → Outbox
 nothing_sent flying = record { flying = flying; received = 0; placed = 0; lost = 0 }
+
+-- the numbers then
+abbrev pub nothing : ℕ → Sent
+nothing n = record { flying = n; received = 0; placed = 0; lost = 0 }
 
 -- the copy of an arrival's frame that a link carries to an end, under the outgoing header
 abbrev pub copy_to : End → Arrival → Header → Copy
@@ -61,9 +64,9 @@ send_from plug a mask h zero p x = x
 send_from plug a mask h (suc n) p x = send_from plug a mask h n (p + 1) (send_at plug a mask h p x)
 
 -- what a verdict sends goes out on all its ports
-unfoldable pub send_out : (ℕ → Plug) → Arrival → Sending → Outbox → Outbox
-send_out plug a Nothing x = x
-send_out plug a (Copies s) x = send_from plug a s.mask s.header most_ports 0 x
+unfoldable pub send_out : (ℕ → Plug) → Arrival → Option Send → Outbox → Outbox
+send_out plug a None x = x
+send_out plug a (Some s) x = send_from plug a s.mask s.header most_ports 0 x
 
 -- ---- The same, all ports at once
 
@@ -79,9 +82,9 @@ copies_from plug a mask h zero p = []
 copies_from plug a mask h (suc n) p = cond (names mask p) (copy_on (plug p) a h) [] ++ copies_from plug a mask h n (p + 1)
 
 -- the new copies of what is sent, in ascending port order
-unfoldable pub new_copies : (ℕ → Plug) → Arrival → Sending → List Copy
-new_copies plug a Nothing = []
-new_copies plug a (Copies s) = copies_from plug a s.mask s.header most_ports 0
+unfoldable pub new_copies : (ℕ → Plug) → Arrival → Option Send → List Copy
+new_copies plug a None = []
+new_copies plug a (Some s) = copies_from plug a s.mask s.header most_ports 0
 
 -- for how many more there is room
 abbrev pub room_in : List Copy → ℕ

@@ -1,8 +1,11 @@
 -- Document 01, "The bench": the three kinds of events, their own refusals, and the turn that a head takes at an accepted one.
 -- `own_refusal`, `head_of`, `turn_of`, `told` and the parts of an answer that a line prints (`refusal_of`, `verdict_of`, `received_by`) are the interface; the others serve them, or are the words of laws and of the code.
-use Rattle.std.specs.Prelude.{ℕ, ◌+◌, ◌-◌, ◌^◌, ◌<◌, ◌≤◌, ◌≡◌, Bool, true, false, ◌||◌, List, [], ◌∷◌, eqb, leb, get_or, set, take, length}
+use Rattle.std.specs.Prelude.{ℕ, ◌+◌, ◌-◌, ◌^◌, ◌<◌, ◌≤◌, ◌≡◌, Bool, true, false, ◌||◌, Result, Ok, Err, List, [], ◌∷◌, eqb, leb, get_or, set, take, length}
 use Rattle.std.specs.Int.Count.{ones}
 use Rattle.wire.specs.Address.{address_bound}
+use Rattle.refusal.specs.declared.Refusal.{Refusal}
+use Rattle.refusal.specs.Number as refusal
+use Rattle.refusal.specs.Number.{refused_as}
 use Rattle.refusal.specs.Refusal.{Cause, Told, first, when}
 use Rattle.frame.specs.Header.{bit}
 use Rattle.network.specs.declared.Network.{Network}
@@ -24,8 +27,8 @@ use Rattle.event.specs.declared.Setting.{Setting}
 use Rattle.event.specs.Event.{address_of}
 use Rattle.turn.specs.Send.{Outbox, Written, nothing_sent, send_out}
 use Rattle.turn.specs.declared.Report.{Report}
-use Rattle.turn.specs.declared.Answer.{Answer}
-use Rattle.turn.specs.declared.Answer.TheVariants.{Refused, Stepped, Linked}
+use Rattle.turn.specs.declared.Done.{Done}
+use Rattle.turn.specs.declared.Done.TheVariants.{Stepped, Linked}
 
 -- ---- An event's own refusals
 
@@ -61,33 +64,38 @@ own_refusal n flying e = first (own_causes n flying e)
 abbrev pub report_values : Report → List ℕ
 report_values r = r.switch ∷ r.port ∷ r.source ∷ r.destination ∷ r.placed ∷ r.lost ∷ r.received ∷ bit r.overwrote ∷ verdict_values r.verdict
 
--- a refusal has its number alone, a step its report, a link's setting the letter K and how many copies were cut
-abbrev pub answer_values : Answer → List ℕ
-answer_values (Refused n) = []
-answer_values (Stepped r) = report_values r
-answer_values (Linked cut) = 0x4B ∷ cut ∷ []
+-- a refusal, or what was done
+abbrev pub Answer : Type 0
+Answer = Result Done Refusal
 
--- its refusal number, 0 for none
-abbrev pub refusal_of : Answer → ℕ
-refusal_of (Refused n) = n
-refusal_of (Stepped r) = 0
-refusal_of (Linked cut) = 0
-
--- its verdict's letter: R if refused, K for a link
-abbrev pub verdict_of : Answer → ℕ
-verdict_of (Refused n) = 0x52
-verdict_of (Stepped r) = letter_of r.verdict
-verdict_of (Linked cut) = 0x4B
-
--- the hosts that received
-abbrev pub received_by : Answer → ℕ
-received_by (Refused n) = 0
-received_by (Stepped r) = r.received
-received_by (Linked cut) = 0
+-- a step's values are its report, a link's setting's the letter K and how many copies were cut
+abbrev pub done_values : Done → List ℕ
+done_values (Stepped r) = report_values r
+done_values (Linked cut) = 0x4B ∷ cut ∷ []
 
 -- number and values of each case
 abbrev pub told : Answer → Told
-told a = record { number = refusal_of a; values = answer_values a }
+told a = refusal.told done_values a
+
+-- a refusal has its number alone
+abbrev pub answer_values : Answer → List ℕ
+answer_values a = (told a).values
+
+-- its refusal number, 0 for none
+abbrev pub refusal_of : Answer → ℕ
+refusal_of a = refused_as a
+
+-- its verdict's letter: R if refused, K for a link
+abbrev pub verdict_of : Answer → ℕ
+verdict_of (Err r) = 0x52
+verdict_of (Ok (Stepped r)) = letter_of r.verdict
+verdict_of (Ok (Linked cut)) = 0x4B
+
+-- the hosts that received
+abbrev pub received_by : Answer → ℕ
+received_by (Err r) = 0
+received_by (Ok (Stepped r)) = r.received
+received_by (Ok (Linked cut)) = 0
 
 -- ---- What an accepted event does: one head takes a turn
 
@@ -99,12 +107,12 @@ host_of n i = host_at n i
 unfoldable pub plug_of : Network → ℕ → ℕ → Plug
 plug_of n k p = plug_at (plugs_of n) k p
 
--- the links' states, the head, the copies in flight and the answer behind a turn
+-- the links' states, the head and the copies in flight behind a turn, and what was done
 pub record Turn : Type 0 where
   pub up : List Bool
   pub seat : Seat
   pub flying : List Copy
-  pub answer : Answer
+  pub done : Done
 
 -- ---- A head steps on an arrival
 
@@ -125,7 +133,7 @@ step_report k a w x =
 
 -- the links stay as they are
 abbrev pub step_turn : List Bool → ℕ → Arrival → Seated → Outbox → Turn
-step_turn up k a w x = record { up = up; seat = w.seat; flying = x.flying; answer = Stepped (step_report k a w x) }
+step_turn up k a w x = record { up = up; seat = w.seat; flying = x.flying; done = Stepped (step_report k a w x) }
 
 -- what a verdict sends goes out behind the copies in flight
 unfoldable pub outbox_of : Network → ℕ → Seated → Arrival → List Copy → Outbox
@@ -182,7 +190,7 @@ spared_by false l flying = spared l flying
 -- no head steps; those that are not spared are cut
 unfoldable pub sets : List Bool → Seat → List Copy → ℕ → Bool → Turn
 sets up s flying l state =
-    record { up = set up l state; seat = s; flying = spared_by state l flying; answer = Linked (length flying - length (spared_by state l flying)) }
+    record { up = set up l state; seat = s; flying = spared_by state l flying; done = Linked (length flying - length (spared_by state l flying)) }
 
 -- ---- The event
 
@@ -202,17 +210,17 @@ turn_of n up s flying (Link e) = sets up s flying e.link (is_up e.state)
 
 -- the copies that join the list
 abbrev pub come : Answer → ℕ
-come (Refused n) = 0
-come (Stepped r) = r.placed
-come (Linked cut) = 0
+come (Err r) = 0
+come (Ok (Stepped r)) = r.placed
+come (Ok (Linked cut)) = 0
 
 -- those that leave it: the one taken, or those cut
 abbrev pub gone : Event → Answer → ℕ
 gone (Present e) a = 0
 gone (Take place) a = 1
-gone (Link e) (Refused n) = 0
-gone (Link e) (Stepped r) = 0
-gone (Link e) (Linked cut) = cut
+gone (Link e) (Err r) = 0
+gone (Link e) (Ok (Stepped r)) = 0
+gone (Link e) (Ok (Linked cut)) = cut
 
 -- a step's report is small: one copy and one host for each port at most, and hosts by 32 bits
 pub record Small (r : Report) : Type 0 where
@@ -222,18 +230,18 @@ pub record Small (r : Report) : Type 0 where
 
 -- an accepted event is answered by a step's report, or by how many copies were cut
 abbrev pub Answers : Event → Answer → Type 0
-Answers (Present e) a = (r : Report) × (a ≡ Stepped r)
-Answers (Take place) a = (r : Report) × (a ≡ Stepped r)
-Answers (Link e) a = (cut : ℕ) × (a ≡ Linked cut)
+Answers (Present e) a = (r : Report) × (a ≡ Ok (Stepped r))
+Answers (Take place) a = (r : Report) × (a ≡ Ok (Stepped r))
+Answers (Link e) a = (cut : ℕ) × (a ≡ Ok (Linked cut))
 
 -- ---- Words of the code
 
 -- what the code has in hand behind a turn: so many of the array's copies are in flight
-pub record Turns (t : Turn) (u : List Bool) (s : Seat) (words : List (List ℕ)) (n : ℕ) (a : Answer) : Type 0 where
+pub record Turns (t : Turn) (u : List Bool) (s : Seat) (words : List (List ℕ)) (n : ℕ) (d : Done) : Type 0 where
   pub up : u ≡ t.up
   pub seat : s ≡ t.seat
   pub copies : copies_in n words ≡ t.flying
-  pub answer : a ≡ t.answer
+  pub done : d ≡ t.done
   pub whole : length words ≡ most
   pub few : n ≤ most
 

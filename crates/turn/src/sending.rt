@@ -3,14 +3,14 @@ ghost use Rattle.std.specs.Prelude.{◌≡◌, ◌+◌, ◌≤◌, ◌<◌, leng
 ghost use Rattle.rules.specs.Verdict.{sending_of};
 ghost use Rattle.cabling.specs.Cabling.{most_ports, plug_at};
 ghost use Rattle.flight.specs.Flight.{copies_in, most};
-ghost use Rattle.turn.specs.Send.{Numbered, Received, Room, Written, copy_to, joins, nothing_sent, outbox, send_at, send_from, send_on, send_out};
+ghost use Rattle.turn.specs.Send.{Numbered, Received, Room, Written, copy_to, joins, nothing, nothing_sent, outbox, send_at, send_from, send_on, send_out};
 
 use cabling::{End, Plug, other, plug_at};
 use flight::Copy;
 use frame::Header;
 use network::Switch;
 use rules::masks::has_port;
-use rules::{Arrival, Send, Sending, Verdict, sending_of};
+use rules::{Arrival, Send, Verdict, sending_of};
 
 // How many copies are in flight, the hosts that received, and how many copies were placed and lost.
 #[derive(Clone, Copy)]
@@ -19,6 +19,20 @@ pub struct Sent {
     pub received: u32,
     pub placed: u8,
     pub lost: u8,
+}
+
+impl Sent {
+    // Before anything is sent.
+    fn nothing(flying: usize) -> Self
+        ensures { result ≡ nothing flying }
+    {
+        Sent {
+            flying,
+            received: 0,
+            placed: 0,
+            lost: 0,
+        }
+    }
 }
 
 fn copy_to(e: End, a: Arrival, h: Header) -> Copy
@@ -43,18 +57,16 @@ fn join(c: Copy, words: &mut [[u64; 3]], s: Sent) -> Sent
     if s.flying < Copy::MOST {
         let at = s.flying;
         flight::join(words, at, c);
-        return Sent {
+        Sent {
             flying: at + 1,
-            received: s.received,
             placed: s.placed + 1,
-            lost: s.lost,
-        };
-    }
-    Sent {
-        flying: s.flying,
-        received: s.received,
-        placed: s.placed,
-        lost: s.lost + 1,
+            ..s
+        }
+    } else {
+        Sent {
+            lost: s.lost + 1,
+            ..s
+        }
     }
 }
 
@@ -64,10 +76,8 @@ fn receive(i: u8, s: Sent) -> Sent
     ensures { Received i s result }
 {
     Sent {
-        flying: s.flying,
         received: s.received | 1u32 << (i as u32),
-        placed: s.placed,
-        lost: s.lost,
+        ..s
     }
 }
 
@@ -101,8 +111,7 @@ fn send_at(
     ensures words { Written s.flying words.old result.flying words.new }
 {
     if has_port(c.mask, port) {
-        let h = c.header;
-        send_on(plug_at(plugs, switch, port), a, h, words, s)
+        send_on(plug_at(plugs, switch, port), a, c.header, words, s)
     } else {
         s
     }
@@ -122,16 +131,9 @@ fn send_all(
     ensures room { Room words.new result most_ports }
     ensures words { Written flying words.old result.flying words.new }
 {
-    let mut s = Sent {
-        flying,
-        received: 0,
-        placed: 0,
-        lost: 0,
-    };
-    let mut port: u8 = 0;
-    while port < Switch::PORTS {
+    let mut s = Sent::nothing(flying);
+    for port in 0..Switch::PORTS {
         s = send_at(plugs, switch, port, a, c, words, s);
-        port += 1;
     }
     s
 }
@@ -150,14 +152,8 @@ pub fn send_out(
     ensures room { Room words.new result most_ports }
     ensures words { Written flying words.old result.flying words.new }
 {
-    let sending = sending_of(v);
-    match sending {
-        Sending::Nothing => Sent {
-            flying,
-            received: 0,
-            placed: 0,
-            lost: 0,
-        },
-        Sending::Copies(c) => send_all(plugs, switch, a, c, words, flying),
+    match sending_of(v) {
+        None => Sent::nothing(flying),
+        Some(c) => send_all(plugs, switch, a, c, words, flying),
     }
 }
