@@ -1,9 +1,10 @@
 -- Document 01, "The bench": what a bench is, and a fresh one. The list of copies is the start of an array; what a count leaves unused is no part of the bench.
-use Rattle.std.specs.Prelude.{ℕ, zero, suc, Bool, true, ◌≡◌, List, [], ◌∷◌, ◌++◌, get_or, replicate, take}
+use Rattle.std.specs.Prelude.{ℕ, zero, suc, Bool, true, ◌≡◌, List, [], ◌∷◌, ◌++◌, Result, IfOk, get_or, replicate, take}
 use Rattle.network.specs.declared.Network.{Network}
-use Rattle.network.specs.Network.{empty_network, most_switches, most_links, padded}
+use Rattle.network.specs.Network.{most_switches, most_links, padded}
 use Rattle.network.specs.Checks.{network_fault}
-use Rattle.refusal.specs.Refusal.{Told, answered, leaves}
+use Rattle.refusal.specs.declared.Refusal.{Refusal}
+use Rattle.refusal.specs.Number.{refused_as}
 use Rattle.rules.specs.declared.Setup.{Setup}
 use Rattle.cabling.specs.Cabling.{plugs_of, setup_of}
 use Rattle.seat.specs.declared.Seat.{Seat}
@@ -11,8 +12,6 @@ use Rattle.seat.specs.Seat.{fresh_seat}
 use Rattle.flight.specs.declared.Copy.{Copy}
 use Rattle.flight.specs.Flight.{most, no_copy}
 use Rattle.bench.specs.declared.Bench.{Bench}
-use Rattle.bench.specs.declared.Made.{Made}
-use Rattle.bench.specs.declared.Made.TheVariants.{Refused, Ready}
 
 -- a bench of these parts
 abbrev pub bench_of : Network → List Bool → List Seat → List Copy → ℕ → Bench
@@ -47,13 +46,7 @@ all_up = replicate most_links true
 unfoldable pub fresh_bench : Network → Bench
 fresh_bench n = bench_of n all_up (padded no_seat most_switches (fresh_heads n all_up n.nswitches)) (replicate most no_copy) 0
 
--- number and values of whether it was made
-abbrev pub told_made : Made → Told
-told_made (Refused n) = record { number = n; values = [] }
-told_made Ready = record { number = 0; values = [] }
-
--- a network that the writer would refuse is refused with that number, and beside it stands the fresh bench of the empty network; any other is ready
-pub record Freshens (n : Network) (m : Made) (b : Bench) : Type 0 where
-  pub made : told_made m ≡ answered (network_fault n) []
-  pub ready : network_fault n ≡ 0 → m ≡ Ready
-  pub bench : b ≡ fresh_bench (leaves (network_fault n) empty_network n)
+-- a network that the writer would refuse is refused with that number; of any other there is its fresh bench
+pub record Freshens (n : Network) (r : Result Bench Refusal) : Type 0 where
+  pub refused : refused_as r ≡ network_fault n
+  pub bench : IfOk r (λ b. b ≡ fresh_bench n)

@@ -1,6 +1,6 @@
 -- What holds of every event on a bench: it keeps the bench in shape, its head steps by demand 2's public step, and nothing else changes.
 -- Each statement is a type; proofs/Laws has its term, under the same name in lower case.
-use Rattle.std.specs.Prelude.{ℕ, ◌<◌, ◌≡◌, true, false, ◌↔◌, ◌⊎◌, List, get_or, set}
+use Rattle.std.specs.Prelude.{ℕ, ◌<◌, ◌≡◌, true, false, ◌↔◌, ◌⊎◌, List, Ok, Err, get_or, set}
 use Rattle.network.specs.declared.Network.{Network}
 use Rattle.network.specs.Checks.{network_fault}
 use Rattle.cabling.specs.Cabling.{first_of, plugs_of, port_of, second_of, setup_of}
@@ -12,14 +12,12 @@ use Rattle.event.specs.declared.Event.TheVariants.{Present, Take, Link}
 use Rattle.event.specs.declared.Setting.{Setting}
 use Rattle.event.specs.Event.{address_of}
 use Rattle.rules.specs.declared.Arrival.{Arrival}
-use Rattle.turn.specs.declared.Answer.{Answer}
-use Rattle.turn.specs.declared.Answer.TheVariants.{Refused, Stepped, Linked}
-use Rattle.turn.specs.Turn.{copy_arrival, copy_at, host_arrival, host_of, is_up, port_to}
+use Rattle.turn.specs.declared.Done.TheVariants.{Stepped, Linked}
+use Rattle.turn.specs.Turn.{Answer, copy_arrival, copy_at, host_arrival, host_of, is_up, port_to}
 use Rattle.bench.specs.Bench.{fresh_bench, in_flight, seat_at}
-use Rattle.bench.specs.Events.{event_of}
+use Rattle.bench.specs.Events.{Happened, event_of}
 use Rattle.bench.specs.Shape.{Accepted, InShape, Sized, in_shape}
 use Rattle.bench.specs.declared.Bench.{Bench}
-use Rattle.bench.specs.declared.Happened.{Happened}
 
 -- the test finds a bench in shape exactly where it is; its arrays are as long as their types say, and so are those of each head's table
 abbrev pub TestedBothWays : Type 0
@@ -37,10 +35,10 @@ KeepsShape = (b : Bench) (e : Event) → Sized b → Accepted b e → InShape (e
 
 -- a step's report names the head, the port, the frame's addresses, the verdict and whether a record was overwritten
 abbrev pub ReportsIt : ℕ → Arrival → Seated → Answer → Type 0
-ReportsIt k a w (Refused n) = ⊥
-ReportsIt k a w (Stepped r) =
+ReportsIt k a w (Err n) = ⊥
+ReportsIt k a w (Ok (Stepped r)) =
     (r.switch ≡ k) × (r.port ≡ a.port) × (r.source ≡ a.source) × (r.destination ≡ a.destination) × (r.verdict ≡ w.report.verdict) × (r.overwrote ≡ w.report.overwrote)
-ReportsIt k a w (Linked cut) = ⊥
+ReportsIt k a w (Ok (Linked cut)) = ⊥
 
 -- head k stepped on an arrival, which is the public step on a frame, and both bench and report show what it did
 pub record StepsTruly (b : Bench) (after : Happened) (k : ℕ) (a : Arrival) (frame : List ℕ) : Type 0 where
@@ -99,7 +97,7 @@ pub record Unchanged (b : Bench) (after : Happened) : Type 0 where
   pub seats : (k : ℕ) → k < b.network.nswitches → seat_at after.bench k ≡ seat_at b k
   pub links : after.bench.up ≡ b.up
   pub copies : in_flight after.bench ≡ in_flight b
-  pub cut : after.answer ≡ Linked 0
+  pub cut : after.answer ≡ Ok (Linked 0)
 
 -- setting what is already so changes nothing
 abbrev pub AlreadySo : Type 0

@@ -1,20 +1,20 @@
 -- Document 01, "The bench": the seven counters, what an event adds to each, and their part of refusal 28.
-use Rattle.std.specs.Prelude.{ℕ, ◌+◌, ◌*◌, ◌≤◌, ◌<◌, ◌≡◌, Bool, ◌&&◌, eqb, leb}
+use Rattle.std.specs.Prelude.{ℕ, ◌+◌, ◌*◌, ◌≤◌, ◌<◌, ◌≡◌, Bool, ◌&&◌, Ok, Err, eqb, leb}
 use Rattle.std.specs.Int.Count.{ones}
 use Rattle.frame.specs.Header.{bit}
 use Rattle.event.specs.declared.Event.{Event}
 use Rattle.event.specs.declared.Event.TheVariants.{Present, Take, Link}
-use Rattle.turn.specs.declared.Answer.{Answer}
-use Rattle.turn.specs.declared.Answer.TheVariants.{Refused, Stepped, Linked}
+use Rattle.turn.specs.declared.Done.TheVariants.{Stepped, Linked}
+use Rattle.turn.specs.Turn.{Answer}
 use Rattle.counters.specs.declared.Counters.{Counters}
 
 -- ---- What one event adds, by its answer
 
 -- copies that joined the list
 abbrev pub placed_by : Answer → ℕ
-placed_by (Refused n) = 0
-placed_by (Stepped r) = r.placed
-placed_by (Linked cut) = 0
+placed_by (Err n) = 0
+placed_by (Ok (Stepped r)) = r.placed
+placed_by (Ok (Linked cut)) = 0
 
 -- a step takes a copy out where its event is a taking
 abbrev pub taken_at : Event → ℕ
@@ -24,39 +24,39 @@ taken_at (Link e) = 0
 
 -- the copy that was taken out
 abbrev pub taken_by : Event → Answer → ℕ
-taken_by e (Refused n) = 0
-taken_by e (Stepped r) = taken_at e
-taken_by e (Linked cut) = 0
+taken_by e (Err n) = 0
+taken_by e (Ok (Stepped r)) = taken_at e
+taken_by e (Ok (Linked cut)) = 0
 
 -- copies on a link that was set down
 abbrev pub cut_by : Answer → ℕ
-cut_by (Refused n) = 0
-cut_by (Stepped r) = 0
-cut_by (Linked cut) = cut
+cut_by (Err n) = 0
+cut_by (Ok (Stepped r)) = 0
+cut_by (Ok (Linked cut)) = cut
 
 -- copies for which there was no room
 abbrev pub lost_by : Answer → ℕ
-lost_by (Refused n) = 0
-lost_by (Stepped r) = r.lost
-lost_by (Linked cut) = 0
+lost_by (Err n) = 0
+lost_by (Ok (Stepped r)) = r.lost
+lost_by (Ok (Linked cut)) = 0
 
 -- hosts that received
 abbrev pub delivered_by : Answer → ℕ
-delivered_by (Refused n) = 0
-delivered_by (Stepped r) = ones r.received
-delivered_by (Linked cut) = 0
+delivered_by (Err n) = 0
+delivered_by (Ok (Stepped r)) = ones r.received
+delivered_by (Ok (Linked cut)) = 0
 
 -- a step that overwrote a record
 abbrev pub overwritten_by : Answer → ℕ
-overwritten_by (Refused n) = 0
-overwritten_by (Stepped r) = bit r.overwrote
-overwritten_by (Linked cut) = 0
+overwritten_by (Err n) = 0
+overwritten_by (Ok (Stepped r)) = bit r.overwrote
+overwritten_by (Ok (Linked cut)) = 0
 
 -- an event that wasn't refused
 abbrev pub accepted_by : Answer → ℕ
-accepted_by (Refused n) = 0
-accepted_by (Stepped r) = 1
-accepted_by (Linked cut) = 1
+accepted_by (Err n) = 0
+accepted_by (Ok (Stepped r)) = 1
+accepted_by (Ok (Linked cut)) = 1
 
 -- ---- The record of seven
 

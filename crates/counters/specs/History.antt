@@ -3,15 +3,14 @@ use Rattle.std.specs.Prelude.{ℕ, ◌+◌, ◌≡◌, ◌≢◌, List, [], ◌�
 use Rattle.network.specs.declared.Network.{Network}
 use Rattle.network.specs.Checks.{network_fault}
 use Rattle.event.specs.declared.Event.{Event}
-use Rattle.turn.specs.declared.Answer.{Answer}
+use Rattle.turn.specs.Turn.{Answer}
 use Rattle.bench.specs.declared.Bench.{Bench}
 use Rattle.bench.specs.Bench.{fresh_bench, in_flight}
 use Rattle.bench.specs.Shape.{InShape}
 use Rattle.bench.specs.Kept.{Truly}
 use Rattle.counters.specs.Counters.{CountersFit, accepted_by, cut_by, delivered_by, lost_by, no_counts, overwritten_by, placed_by, taken_by}
-use Rattle.counters.specs.Event.{event_refusal, happens_of}
+use Rattle.counters.specs.Event.{Outcome, event_refusal, happens_of}
 use Rattle.counters.specs.declared.Counters.{Counters}
-use Rattle.counters.specs.declared.Counted.{Counted}
 
 -- ---- Runs
 
@@ -25,7 +24,7 @@ abbrev pub fresh_state : Network → State
 fresh_state n = record { bench = fresh_bench n; counters = no_counts }
 
 -- what the event gives at a state
-abbrev pub happens_at : State → Event → Counted
+abbrev pub happens_at : State → Event → Outcome
 happens_at s e = happens_of s.bench e s.counters
 
 -- the state behind an event

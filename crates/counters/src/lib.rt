@@ -2,22 +2,24 @@
 //
 // The caller lends one record of seven. An event checks 34, then 28, then its own causes, before
 // anything is added; what it adds is read off its answer, so that the counters are what the history
-// of events and answers says. The event by value is proved first, and the one that takes a lent
-// record is thin over it.
+// of events and answers says. The event on counters by value is proved first, and the one that takes
+// a lent record is thin over it.
 #![tactic(auto)]
 
-ghost use Rattle.std.specs.Prelude.{◌≡◌, ◌^◌, ◌<◌, ◌≤◌};
+ghost use Rattle.std.specs.Prelude.{OnOk, ◌≡◌, ◌^◌, ◌<◌, ◌≤◌};
+ghost use Rattle.refusal.specs.Number.{refused_as};
 ghost use Rattle.flight.specs.Flight.{most};
 ghost use Rattle.counters.specs.Counters as spec;
 ghost use Rattle.counters.specs.Counters.{Below, counters_fit, no_counts};
-ghost use Rattle.counters.specs.Event.{Happens, Passes, event_refusal, happens_of, most_events};
+ghost use Rattle.counters.specs.Event.{Happens, Passes, event_refusal, happens_as, happens_of, most_events};
 
-use bench::{Bench, Happened};
+use bench::Bench;
 use event::Event;
-use turn::{Answer, own_refusal};
+use refusal::Refusal;
+use turn::{Done, check_event};
 
 // Placed, taken, cut and lost count copies, delivered pairs of a host and an event, overwritten steps.
-#[derive(Clone, Copy)]
+#[derive(Clone, Copy, PartialEq, Eq)]
 pub struct Counters {
     pub placed: u64,
     pub taken: u64,
@@ -28,10 +30,10 @@ pub struct Counters {
     pub accepted: u64,
 }
 
-// What an event answers and leaves, with the counters behind it.
+// What an event did, with the counters behind it.
 #[derive(Clone, Copy)]
 pub struct Counted {
-    pub happened: Happened,
+    pub done: Done,
     pub counters: Counters,
 }
 
@@ -62,22 +64,12 @@ impl Counters {
         ensures { result ≡ counters_fit flying self }
     {
         let bound = Counters::PORTS * self.accepted;
-        if bound < self.taken {
-            return false;
-        }
-        if bound < self.cut {
-            return false;
-        }
-        if bound < self.lost {
-            return false;
-        }
-        if bound < self.delivered {
-            return false;
-        }
-        if bound < self.overwritten {
-            return false;
-        }
-        self.placed == self.taken + self.cut + flying as u64
+        self.taken <= bound
+            && self.cut <= bound
+            && self.lost <= bound
+            && self.delivered <= bound
+            && self.overwritten <= bound
+            && self.placed == self.taken + self.cut + flying as u64
     }
 
     // Counter by counter.
@@ -102,29 +94,27 @@ fn taken_at(e: Event) -> u64
     ensures { (result ≡ spec.taken_at e) × (result < 2) }
 {
     match e {
-        Event::Present(_) => 0,
         Event::Take(_) => 1,
-        Event::Link(_) => 0,
+        Event::Present(_) | Event::Link(_) => 0,
     }
 }
 
-// What an event adds to each, by its answer.
-fn adds(e: Event, a: Answer) -> Counters
-    ensures adds { result ≡ spec.adds e a }
+// What an event adds to each, by what it did.
+fn adds(e: Event, done: Done) -> Counters
+    ensures adds { result ≡ spec.adds e (Ok done) }
     ensures small { Below (2 ^ 63) result }
 {
-    match a {
-        Answer::Refused(_) => Counters::zero(),
-        Answer::Stepped(r) => Counters {
+    match done {
+        Done::Stepped(r) => Counters {
             placed: r.placed as u64,
             taken: taken_at(e),
             cut: 0,
             lost: r.lost as u64,
-            delivered: u32::count_ones(r.received) as u64,
+            delivered: r.received.count_ones() as u64,
             overwritten: r.overwrote as u64,
             accepted: 1,
         },
-        Answer::Linked(cut) => Counters {
+        Done::Linked(cut) => Counters {
             placed: 0,
             taken: 0,
             cut: cut as u64,
@@ -137,50 +127,33 @@ fn adds(e: Event, a: Answer) -> Counters
 }
 
 // 34, then 28, then the event's own causes.
-fn refusal_of(bench: Bench, e: Event, c: Counters) -> u8
-    ensures refusal { result ≡ event_refusal bench c e }
-    ensures passes { result ≡ 0 → Passes bench c e }
+fn check(bench: &Bench, e: Event, c: Counters) -> Result<(), Refusal>
+    ensures refusal { refused_as result ≡ event_refusal bench.now c e }
+    ensures passes { OnOk result (Passes bench.now c e) }
 {
-    if Counters::MOST_EVENTS <= c.accepted {
-        return 34;
-    }
-    if bench.is_in_shape() {
-        if c.fit(bench.flying) {
-            let network = bench.network;
-            return own_refusal(network, bench.flying, e);
-        }
-        return 28;
-    }
-    28
+    Refusal::TooManyEvents.when(Counters::MOST_EVENTS <= c.accepted)?;
+    Refusal::OutOfShape.when(!bench.is_in_shape())?;
+    Refusal::OutOfShape.when(!c.fit(bench.flying))?;
+    check_event(&bench.network, bench.flying, e)
 }
 
-// The event by value.
-pub fn happens(bench: Bench, e: Event, c: Counters) -> Counted
-    ensures { result ≡ happens_of bench e c }
+// The event on counters by value; refused, it leaves the bench as it was.
+pub fn happens(bench: &mut Bench, e: Event, c: Counters) -> Result<Counted, Refusal>
+    ensures { happens_as bench.new c result ≡ happens_of bench.old e c }
 {
-    let n = refusal_of(bench, e, c);
-    if n != 0 {
-        return Counted {
-            happened: Happened {
-                bench,
-                answer: Answer::Refused(n),
-            },
-            counters: c,
-        };
-    }
-    let happened = bench.happen(e);
-    let answer = happened.answer;
-    Counted {
-        happened,
-        counters: c.plus(adds(e, answer)),
-    }
+    check(bench, e, c)?;
+    let done = bench.happen(e);
+    Ok(Counted {
+        done,
+        counters: c.plus(adds(e, done)),
+    })
 }
 
 // The public event: it brings the lent counters up to date; refused, it changes nothing.
-pub fn event(bench: Bench, e: Event, c: &mut Counters) -> Happened
-    ensures { Happens bench c.old e result.answer result.bench c.new }
+pub fn event(bench: &mut Bench, e: Event, c: &mut Counters) -> Result<Done, Refusal>
+    ensures { Happens bench.old c.old e result bench.new c.new }
 {
-    let r = happens(bench, e, *c);
-    *c = r.counters;
-    r.happened
+    let counted = happens(bench, e, *c)?;
+    *c = counted.counters;
+    Ok(counted.done)
 }
