@@ -1,11 +1,10 @@
 -- Document 01, "The bench": the public event. It checks 34, then 28, then its own causes by number; a refused event changes neither bench nor counters.
 use Rattle.std.specs.Prelude.{ℕ, ◌<◌, ◌≡◌, cond, not, List, ◌∷◌, Result, Ok, Err, eqb, leb}
 use Rattle.refusal.specs.Refusal.{Cause, answered, first, leaves, when}
-use Rattle.refusal.specs.Number.{told}
 use Rattle.refusal.specs.declared.Refusal.{Refusal}
 use Rattle.refusal.specs.declared.Refusal.TheVariants.{NoSuchCopy, NoSuchHost, NoSuchLink, OutOfShape, ToNobody, TooManyEvents}
 use Rattle.event.specs.declared.Event.{Event}
-use Rattle.turn.specs.Turn.{Answer, done_values, own_causes}
+use Rattle.turn.specs.Turn.{Answer, answer_values, own_causes, told}
 use Rattle.bench.specs.declared.Bench.{Bench}
 use Rattle.bench.specs.Events.{Happened, event_of, happened_as}
 use Rattle.bench.specs.Shape.{Accepted, in_shape}
@@ -58,7 +57,7 @@ happens_as b c (Err n) = record { happened = happened_as b (Err n); counters = c
 
 -- what the public event promises: the answer's number and values, the bench and the counters
 pub record Happens (b : Bench) (c : Counters) (e : Event) (a : Answer) (b' : Bench) (c' : Counters) : Type 0 where
-  pub answer : told done_values a ≡ answered (event_refusal b c e) (told done_values (event_of b e).answer).values
+  pub answer : told a ≡ answered (event_refusal b c e) (answer_values (event_of b e).answer)
   pub bench : b' ≡ leaves (event_refusal b c e) b (event_of b e).bench
   pub counters : c' ≡ leaves (event_refusal b c e) c (counted c e (event_of b e).answer)
 
