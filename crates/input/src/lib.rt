@@ -7,6 +7,9 @@ ghost use Rattle.std.specs.Prelude.{◌<◌, ◌≤◌, IfOk, length, take};
 
 use std::io::{self, Read};
 
+// One byte more than the longest input, so that a longer one is refused and not cut.
+pub const ROOM: usize = 60_001;
+
 // Reads until the room is full or the input has ended, and says how many bytes came. Each turn but
 // the last brings some, so there are enough turns.
 pub fn read_full<R: Read>(reader: &mut R, room: &mut [u8]) -> io::Result<usize>

@@ -1,95 +1,73 @@
--- Words of the code that runs: what an event does to the head whose turn it is, in a run that has worked out nothing else.
-use Rattle.std.specs.Prelude.{ℕ, ◌*◌, ◌<◌, ◌≤◌, ◌≡◌, ◌≢◌, Bool, List, drop, length, take}
-use Rattle.refusal.specs.Refusal.{leaves}
+-- Words of the code that runs: what an event does to a bench whose heads' setups are worked out when their turn comes.
+use Rattle.std.specs.Prelude.{ℕ, ◌≤◌, ◌≡◌, List, Result, Ok, Err, get_or, length, replicate, set}
+use Rattle.refusal.specs.Number.{number_of}
+use Rattle.refusal.specs.declared.Refusal.{Refusal}
 use Rattle.wire.specs.Wire.{put}
 use Rattle.network.specs.declared.Network.{Network}
 use Rattle.network.specs.Network.{most_links, most_switches}
 use Rattle.network.specs.Checks.{network_fault}
 use Rattle.cabling.specs.Cabling.{plugs_of, setup_of}
 use Rattle.seat.specs.declared.Seat.{Seat}
-use Rattle.seat.specs.Seat.{cell_bytes, seat_in, with_setup}
-use Rattle.table.specs.Table.{slots}
-use Rattle.rules.specs.declared.Setup.{Setup}
+use Rattle.seat.specs.Seat.{with_setup}
 use Rattle.flight.specs.declared.Copy.{Copy}
-use Rattle.flight.specs.Flight.{copies_in}
+use Rattle.flight.specs.Flight.{copies_in, most, no_words}
 use Rattle.event.specs.declared.Event.{Event}
-use Rattle.turn.specs.declared.Answer.{Answer}
-use Rattle.turn.specs.declared.Answer.TheVariants.{Refused}
+use Rattle.turn.specs.declared.Done.{Done}
 use Rattle.turn.specs.Turn.{CanTurn, Kept, Turn, Turns, head_of, own_refusal, turn_of}
+use Rattle.bench.specs.Bench.{all_up, no_seat}
 use Rattle.transcript.specs.Transcript.{lines_from, most_printed}
+use Rattle.transcript.specs.declared.running.Parts.{Parts}
 
--- ---- The heads: all tables side by side, and all filters; setups are worked out when a turn comes
+-- ---- What a run keeps
 
--- the arrays of all heads
-pub record Arrays : Type 0 where
-  pub addresses : List ℕ
-  pub ports : List ℕ
-  pub hops : List ℕ
-  pub cells : List ℕ
+-- all links up, nothing learned, no copy in flight
+abbrev pub fresh_parts : Parts
+fresh_parts = record { up = all_up; seats = replicate most_switches no_seat; words = replicate most no_words; flying = 0 }
 
-abbrev pub arrays_of : List ℕ → List ℕ → List ℕ → List ℕ → Arrays
-arrays_of addresses ports hops cells = record { addresses = addresses; ports = ports; hops = hops; cells = cells }
-
--- each as long as sixteen heads' parts
-pub record Whole (x : Arrays) : Type 0 where
-  pub addresses : length x.addresses ≡ slots * most_switches
-  pub ports : length x.ports ≡ slots * most_switches
-  pub hops : length x.hops ≡ slots * most_switches
-  pub cells : length x.cells ≡ cell_bytes * most_switches
-
--- part k of an array of parts that are w long
-unfoldable pub part : ℕ → ℕ → List ℕ → List ℕ
-part w k xs = take w (drop (k * w) xs)
-
--- head k, under whatever setup, is what the arrays hold as their parts k
-abbrev pub HeadIn : Seat → ℕ → ℕ → Arrays → Type 0
-HeadIn s nonce k x =
-    (setup : Setup) → with_setup setup s ≡ seat_in setup nonce (part slots k x.addresses) (part slots k x.ports) (part slots k x.hops) (part cell_bytes k x.cells)
-
--- an array changes in its part k alone
-pub record OnlyPart (w k : ℕ) (xs ys : List ℕ) : Type 0 where
-  pub long : length ys ≡ length xs
-  pub others : (j : ℕ) → j ≢ k → part w j ys ≡ part w j xs
-
-pub record OnlyHead (k : ℕ) (x y : Arrays) : Type 0 where
-  pub addresses : OnlyPart slots k x.addresses y.addresses
-  pub ports : OnlyPart slots k x.ports y.ports
-  pub hops : OnlyPart slots k x.hops y.hops
-  pub cells : OnlyPart cell_bytes k x.cells y.cells
+-- the copies in flight
+abbrev pub copies_of : Parts → List Copy
+copies_of p = copies_in p.flying p.words
 
 -- ---- An event
 
--- a head whose setup is worked out when its turn comes: that of head k
+-- its own refusal
+abbrev pub refusal_at : Network → Parts → Event → ℕ
+refusal_at n p e = own_refusal n p.flying e
+
+-- the number of the head whose turn it is
+abbrev pub head_at : Network → Parts → Event → ℕ
+head_at n p e = head_of n (copies_of p) e
+
+-- head k, under the setup that is worked out for it
 unfoldable pub seated_at : Network → List Bool → ℕ → Seat → Seat
 seated_at n up k s = with_setup (setup_of n (plugs_of n) up k) s
 
--- a refused event leaves everything as it was
-abbrev pub unturned : List Bool → Seat → List Copy → ℕ → Turn
-unturned up s flying n = record { up = up; seat = s; flying = flying; answer = Refused n }
+-- the turn that it takes
+unfoldable pub turn_at : Network → Parts → Event → Turn
+turn_at n p e = turn_of n p.up (seated_at n p.up (head_at n p e) (get_or p.seats (head_at n p e) no_seat)) (copies_of p) e
 
--- which head an event concerns: the one whose turn it is; head 0 stands for none
-unfoldable pub concerned : Network → ℕ → List Copy → Event → ℕ
-concerned n flying copies e = leaves (own_refusal n flying e) 0 (head_of n copies e)
-
--- an event: refused for its own causes, or the turn of its head
-unfoldable pub act_of : Network → List Bool → Seat → ℕ → List Copy → Event → Turn
-act_of n up s flying copies e =
-    leaves (own_refusal n flying e) (unturned up s copies (own_refusal n flying e)) (turn_of n up (seated_at n up (head_of n copies e) s) copies e)
-
--- what that needs, k being the head that the event concerns
-pub record CanAct (n : Network) (plugs : List ℕ) (up : List Bool) (words : List (List ℕ)) (flying : ℕ) (e : Event) (k : ℕ) : Type 0 where
-  pub kept : Kept words flying
-  pub links : length up ≡ most_links
+-- what an event needs
+pub record CanAct (n : Network) (plugs : List ℕ) (p : Parts) (e : Event) : Type 0 where
+  pub kept : Kept p.words p.flying
   pub plugged : plugs ≡ plugs_of n
-  pub can : own_refusal n flying e ≡ 0 → CanTurn n (copies_in flying words) e
-  pub head : k ≡ concerned n flying (copies_in flying words) e
-  pub few : k < most_switches
+  pub can : refusal_at n p e ≡ 0 → CanTurn n (copies_of p) e
+  pub few : refusal_at n p e ≡ 0 → head_at n p e < most_switches
 
--- what the code has in hand behind it: the head is again what the arrays hold
-pub record Acts (t : Turn) (up : List Bool) (k nonce : ℕ) (x : Arrays) (words : List (List ℕ)) (flying : ℕ) (a : Answer) : Type 0 where
+-- an accepted event is the turn of its head, and the others stay as they are
+pub record Taken (n : Network) (p : Parts) (e : Event) (d : Done) (q : Parts) : Type 0 where
+  pub free : refusal_at n p e ≡ 0
   pub seat : Seat
-  pub turns : Turns t up seat words flying a
-  pub held : HeadIn seat nonce k x
+  pub turns : Turns (turn_at n p e) q.up seat q.words q.flying d
+  pub seats : q.seats ≡ set p.seats (head_at n p e) seat
+
+-- a refused one leaves everything as it was
+pub record Left (n : Network) (p : Parts) (e : Event) (r : Refusal) (q : Parts) : Type 0 where
+  pub number : number_of r ≡ refusal_at n p e
+  pub same : q ≡ p
+
+abbrev pub Acts : Network → Parts → Event → Result Done Refusal → Parts → Type 0
+Acts n p e (Ok d) q = Taken n p e d q
+Acts n p e (Err r) q = Left n p e r q
 
 -- ---- The run
 

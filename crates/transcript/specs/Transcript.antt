@@ -1,19 +1,15 @@
 -- Document 01, "The bench", last part: what the program prints for an input, a description followed by events.
-use Rattle.std.specs.Prelude.{ℕ, zero, suc, ◌+◌, ◌*◌, ◌≤◌, ◌≡◌, cond, List, [], ◌∷◌, ◌++◌, eqb, ltb, drop, length}
+use Rattle.std.specs.Prelude.{ℕ, zero, suc, ◌+◌, ◌*◌, ◌≤◌, ◌≡◌, cond, List, [], ◌∷◌, ◌++◌, eqb, ltb, drop, length, Option, None, Some, Result, Ok, Err}
+use Rattle.refusal.specs.declared.Refusal.{Refusal}
 use Rattle.wire.specs.Wire.{put}
 use Rattle.network.specs.declared.Network.{Network}
 use Rattle.network.specs.Describe.{read_end, read_fault, read_network}
 use Rattle.event.specs.declared.Event.{Event}
-use Rattle.event.specs.declared.Answer.{Answer as Read}
-use Rattle.event.specs.declared.Answer.TheVariants.{Refused as Bad, Got}
 use Rattle.event.specs.Event.{letter_of, read_event, size_of}
 use Rattle.lines.specs.declared.Line.{Line}
 use Rattle.lines.specs.Lines.{line_of, refused_line, stop_line}
-use Rattle.turn.specs.declared.Answer.{Answer}
-use Rattle.turn.specs.Turn.{received_by, refusal_of, verdict_of}
+use Rattle.turn.specs.Turn.{Answer, received_by, refusal_of, verdict_of}
 use Rattle.counters.specs.History.{State, after, fresh_state, happens_at}
-use Rattle.transcript.specs.declared.Printed.{Printed}
-use Rattle.transcript.specs.declared.Printed.TheVariants.{TooShort, Wrote}
 
 -- ---- A line for each event, refused ones also
 
@@ -29,9 +25,9 @@ line_at k s e = line_of (line_for k e (happens_at s e).happened.answer (happens_
 -- ---- The lines of a run
 
 -- the line of the event that was read and what follows it; a bad event record ends the run
-unfoldable pub printed : ℕ → State → (Event → List ℕ) → Read → List ℕ
-printed k s rest (Bad n) = stop_line
-printed k s rest (Got e) = line_at k s e ++ rest e
+unfoldable pub printed : ℕ → State → (Event → List ℕ) → Result Event Refusal → List ℕ
+printed k s rest (Err r) = stop_line
+printed k s rest (Ok e) = line_at k s e ++ rest e
 
 -- the lines of the events in an input, numbered from k on; an event takes at least a byte, so that as many turns as the input has bytes are enough
 unfoldable pub lines_in : ℕ → ℕ → State → List ℕ → List ℕ
@@ -62,11 +58,11 @@ abbrev pub Bounded : Type 0
 Bounded = (input : List ℕ) → length (transcript input) ≤ most_printed
 
 -- what each answer says: no number but how many bytes were written, and none for a buffer that is too short
-abbrev pub told_printed : Printed → List ℕ
-told_printed TooShort = []
-told_printed (Wrote n) = n ∷ []
+abbrev pub told_printed : Option ℕ → List ℕ
+told_printed None = []
+told_printed (Some n) = n ∷ []
 
 -- a buffer shorter than the longest transcript stays as it is; any other has the transcript at its start, and what is behind it stays
-pub record Prints (input out : List ℕ) (p : Printed) (out' : List ℕ) : Type 0 where
+pub record Prints (input out : List ℕ) (p : Option ℕ) (out' : List ℕ) : Type 0 where
   pub answer : told_printed p ≡ cond (ltb (length out) most_printed) [] (length (transcript input) ∷ [])
   pub output : out' ≡ cond (ltb (length out) most_printed) out (put out 0 (transcript input))
