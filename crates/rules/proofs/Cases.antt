@@ -4,8 +4,9 @@ use mathlib.Core.Bool.{Bool, true, false, cond, ◌&&◌}
 use mathlib.Core.List.{List}
 use Prim.Native.Nat.{ℕ}
 use mir.Val.{bool_byte}
+use Rattle.std.specs.Prelude.{Option}
+use Rattle.table.specs.declared.Entry.{Entry}
 use Rattle.table.specs.declared.Table.{Table}
-use Rattle.table.specs.declared.Found.{Found}
 use Rattle.filter.specs.Triple.{triple}
 use Rattle.frame.proofs.Laws.{flag_bit}
 use Rattle.table.specs.Table.{learned_of}
@@ -28,7 +29,7 @@ pub triple_key : (a : Arrival) {key : List ℕ} → key ≡ triple a.source a.he
 triple_key a e = e ∙ ap (λ l. triple a.source a.header.nonce l) (flag_bit a.header.l)
 
 -- rule 6 finds the table as rule 5 left it, and the entry as it was read
-pub learning_by : (t u : Table) (a : Arrival) (dup : Bool) (found : Found) → u ≡ rule5 t a dup found → found ≡ reading t a → rule6 u a dup found ≡ learning t a dup
+pub learning_by : (t u : Table) (a : Arrival) (dup : Bool) (found : Option Entry) → u ≡ rule5 t a dup found → found ≡ reading t a → rule6 u a dup found ≡ learning t a dup
 unfolding learning
 learning_by t u a dup found e r = rw (e, r)
 

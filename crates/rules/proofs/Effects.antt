@@ -2,8 +2,8 @@
 use mathlib.Core.Path.{◌≡◌}
 use mathlib.Core.Logic.{⊎_elim}
 use mathlib.Core.Bool.{Bool, true}
-use Rattle.table.specs.declared.Found.{Found}
-use Rattle.table.specs.declared.Found.TheVariants.{Entry as Here, Absent}
+use Rattle.std.specs.Prelude.{Option, Some, None}
+use Rattle.table.specs.declared.Entry.{Entry}
 use Rattle.table.specs.Table.{lookup_of}
 use Rattle.rules.specs.Rules.{learns}
 use Rattle.rules.specs.Words.{heard}
@@ -14,9 +14,9 @@ use Rattle.rules.proofs.Laws.{flood_held, flood_learned, learns_absent, learns_l
 pub flood_is_recorded : FloodIsRecorded
 flood_is_recorded s t f a formed floods = flood_held s t f a floods formed
 
-learns_so : (a : Arrival) (dup : Bool) (found : Found) → Learns a dup found → learns a dup found ≡ true
-learns_so a dup Absent why = learns_absent a dup
-learns_so a dup (Here e) why = ⊎_elim (λ nearer. learns_nearer a dup e nearer) (λ l. rw l.1 (learns_local a (Here e) l.0)) why
+learns_so : (a : Arrival) (dup : Bool) (found : Option Entry) → Learns a dup found → learns a dup found ≡ true
+learns_so a dup None why = learns_absent a dup
+learns_so a dup (Some e) why = ⊎_elim (λ nearer. learns_nearer a dup e nearer) (λ l. rw l.1 (learns_local a (Some e) l.0)) why
 
 pub source_is_learned : SourceIsLearned
 source_is_learned n s t f a formed room some floods why =

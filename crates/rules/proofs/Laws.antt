@@ -9,12 +9,11 @@ use native.Mathlib.Omega.{arith}
 use lib.Dec.{eqb}
 use borrow.Author.Tests.{le-ltb, lt-ltb}
 use lib.ListN.{length}
+use Rattle.std.specs.Prelude.{Option, Some, None}
 use Rattle.wire.specs.Address.{Source}
 use Rattle.wire.specs.Wire.{bytes_of}
 use Rattle.table.specs.declared.Table.{Table}
 use Rattle.table.specs.declared.Entry.{Entry}
-use Rattle.table.specs.declared.Found.{Found}
-use Rattle.table.specs.declared.Found.TheVariants.{Entry as Here, Absent}
 use Rattle.table.specs.Table as table
 use Rattle.table.specs.Table.{Holds, Sized, entry_of, erase_of, lookup_of, most_hops, slots}
 use Rattle.table.proofs.Laws as table_laws
@@ -30,8 +29,6 @@ use Rattle.rules.specs.Verdict.{sending_of, sent_by}
 use Rattle.rules.specs.declared.Setup.{Setup}
 use Rattle.rules.specs.declared.Arrival.{Arrival}
 use Rattle.rules.specs.declared.Send.{Send}
-use Rattle.rules.specs.declared.Sending.{Sending}
-use Rattle.rules.specs.declared.Sending.TheVariants.{Nothing, Copies}
 use Rattle.rules.specs.declared.Verdict.TheVariants.{X, D, F, N, B}
 use Rattle.rules.proofs.Bits.{names_below, names_none}
 use Rattle.rules.proofs.Cases.{and_false}
@@ -63,16 +60,16 @@ module _ (s : Setup) (t : Table) (f : List ℕ) (a : Arrival) where
   fairly = ways.fair s t f a (way s t f a)
 
   -- what is sent goes to live ports only and carries the arrival's hop count, within the limit, and its nonce
-  pub sent_fairly : (c : Send) → sending_of (rules s t f a).report.verdict ≡ Copies c → Fair s a c
+  pub sent_fairly : (c : Send) → sending_of (rules s t f a).report.verdict ≡ Some c → Fair s a c
   sent_fairly c e = subst (FairBy s a) e fairly
 
   -- the mask names live ports only
   pub mask_live : (p : ℕ) → names (sent_by (sending_of (rules s t f a).report.verdict)).mask p ≡ true → names s.live p ≡ true
   mask_live p = by_sending (sending_of (rules s t f a).report.verdict) fairly
     where
-      by_sending : (g : Sending) → FairBy s a g → names (sent_by g).mask p ≡ true → names s.live p ≡ true
-      by_sending Nothing ok e = absurd (true≢false (sym e ∙ names_none 0 0 p (omega arith) (omega arith)))
-      by_sending (Copies c) ok e = ok.live p e
+      by_sending : (g : Option Send) → FairBy s a g → names (sent_by g).mask p ≡ true → names s.live p ≡ true
+      by_sending None ok e = absurd (true≢false (sym e ∙ names_none 0 0 p (omega arith) (omega arith)))
+      by_sending (Some c) ok e = ok.live p e
 
   pub mask_within : {n : ℕ} → s.live < 2 ^ n → (p : ℕ) → names (sent_by (sending_of (rules s t f a).report.verdict)).mask p ≡ true → p < n
   mask_within {n} fits p e = names_below n s.live p fits (mask_live p e)
@@ -105,10 +102,10 @@ module _ (s : Setup) (t : Table) (f : List ℕ) (a : Arrival) where
       table_formed = (tables.formed_keeps s t f a (λ _. Unit {0}) tt formed low arrives (λ _ _ _. tt) (λ _ _ _. tt)).0
 
       -- every entry that a step adds or changes is for the source, and nothing is erased but the destination
-      pub others_kept : (y : ℕ) → y ≢ a.source → (lookup_of (rules s t f a).table y ≡ lookup_of t y) ⊎ ((y ≡ a.destination) × (lookup_of (rules s t f a).table y ≡ Absent))
+      pub others_kept : (y : ℕ) → y ≢ a.source → (lookup_of (rules s t f a).table y ≡ lookup_of t y) ⊎ ((y ≡ a.destination) × (lookup_of (rules s t f a).table y ≡ None))
       others_kept y other =
           by_cases (ℕ_discrete y a.destination)
-          (λ e. (tables.formed_keeps s t f a (λ u. (lookup_of u y ≡ lookup_of t y) ⊎ ((y ≡ a.destination) × (lookup_of u y ≡ Absent))) (inl refl) formed low arrives
+          (λ e. (tables.formed_keeps s t f a (λ u. (lookup_of u y ≡ lookup_of t y) ⊎ ((y ≡ a.destination) × (lookup_of u y ≡ None))) (inl refl) formed low arrives
           (λ u w _. inr (e, rw e (table_laws.erase_same w a.destination)))
           (λ u w k. rw (table_laws.learn_other w.sized a.source a.port a.header.hc y other) k)).1)
           (λ far. inl (bystander_kept formed.sized y other far))
@@ -196,7 +193,7 @@ module _ (s : Setup) (t : Table) (f : List ℕ) (a : Arrival) where
 
     -- the source is then found where this copy came from, if rule 6 learns and the table has room
     pub flood_learned : Sized t → a.source ≢ 0 → learns a (heard s f a) (lookup_of t a.source) ≡ true → (rules s t f a).report.full ≡ false
-        → lookup_of (rules s t f a).table a.source ≡ Here (entry_of a.port a.header.hc)
+        → lookup_of (rules s t f a).table a.source ≡ Some (entry_of a.port a.header.hc)
     flood_learned sized some e = rw flood_young (tables.learned_entry t a (heard s f a) sized some e)
 
     -- and else as before, unless rule 5 could erase it
@@ -207,19 +204,19 @@ module _ (s : Setup) (t : Table) (f : List ℕ) (a : Arrival) where
 -- ---- Rule 6: no entry, or HC less than the entry's, or L set and not a duplicate; and nothing else learns
 
 module _ (a : Arrival) where
-  pub learns_absent : (dup : Bool) → learns a dup Absent ≡ true
+  pub learns_absent : (dup : Bool) → learns a dup None ≡ true
   unfolding learns
   learns_absent dup = refl
 
-  pub learns_nearer : (dup : Bool) (e : Entry) → a.header.hc < e.hops → learns a dup (Here e) ≡ true
+  pub learns_nearer : (dup : Bool) (e : Entry) → a.header.hc < e.hops → learns a dup (Some e) ≡ true
   unfolding learns
   learns_nearer dup e nearer = rw (lt-ltb a.header.hc e.hops nearer)
 
-  pub learns_local : (found : Found) → a.header.l ≡ true → learns a false found ≡ true
+  pub learns_local : (found : Option Entry) → a.header.l ≡ true → learns a false found ≡ true
   unfolding learns
   learns_local found l = ap (λ b. is_nearer a.header.hc found || (b && true)) l ∙ or-true (is_nearer a.header.hc found)
 
-  pub learns_not : (dup : Bool) (e : Entry) → e.hops ≤ a.header.hc → (a.header.l ≡ false) ⊎ (dup ≡ true) → learns a dup (Here e) ≡ false
+  pub learns_not : (dup : Bool) (e : Entry) → e.hops ≤ a.header.hc → (a.header.l ≡ false) ⊎ (dup ≡ true) → learns a dup (Some e) ≡ false
   unfolding learns
   learns_not dup e far why = rw (le-ltb a.header.hc e.hops far) (⊎_elim (λ l. ap (λ b. b && not dup) l) (λ d. rw d (sym (and_false a.header.l))) why)
 

@@ -7,10 +7,9 @@ use Prim.Native.Nat.{ℕ, ◌<◌, ◌≤◌}
 use native.Mathlib.Omega.{arith}
 use lib.ListN.{length}
 use borrow.Author.Tests.{ltb-false}
+use Rattle.std.specs.Prelude.{Some}
 use Rattle.table.specs.declared.Table.{Table}
-use Rattle.table.specs.declared.Learned.{Learned}
-use Rattle.table.specs.declared.Found.TheVariants.{Entry as Here}
-use Rattle.table.specs.Table.{Holds, MayHold, Sized, WellFormed, entry_of, erase_of, learn_of, learned_of, lookup_of, most_hops, slots}
+use Rattle.table.specs.Table.{Learned, Holds, MayHold, Sized, WellFormed, entry_of, erase_of, learn_of, learned_of, lookup_of, most_hops, slots}
 use Rattle.table.proofs.Laws as laws
 use Rattle.rules.specs.Rules.{at_one, erases, learning, learns, reading, rule5, rule6, rules, too_old}
 use Rattle.rules.specs.declared.Setup.{Setup}
@@ -63,7 +62,7 @@ module _ (t : Table) (a : Arrival) (dup : Bool) where
   learning_by e = rw e
 
   pub learned_entry : Sized t → a.source ≢ 0 → learns a dup (reading t a) ≡ true → (learning t a dup).full ≡ false
-      → lookup_of (learning t a dup).table a.source ≡ Here (entry_of a.port a.header.hc)
+      → lookup_of (learning t a dup).table a.source ≡ Some (entry_of a.port a.header.hc)
   learned_entry sized some e = rw (learning_by e) (λ room. laws.learn_same (sized5 sized) a.source a.port a.header.hc some room)
 
   pub kept_entry : Sized t → (a.source ≢ a.destination) ⊎ (a.header.l ≡ true) → learns a dup (reading t a) ≡ false

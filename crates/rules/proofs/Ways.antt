@@ -6,12 +6,10 @@ use mathlib.Core.List.{List}
 use Prim.Native.Nat.{ℕ}
 use lib.Dec.{eqb}
 use borrow.Author.Tests.{eqb-true, eqb-false, ltb-false}
+use Rattle.std.specs.Prelude.{Option, Some, None}
 use Rattle.table.specs.declared.Table.{Table}
-use Rattle.table.specs.declared.Learned.{Learned}
 use Rattle.table.specs.declared.Entry.{Entry}
-use Rattle.table.specs.declared.Found.{Found}
-use Rattle.table.specs.declared.Found.TheVariants.{Entry as Here, Absent}
-use Rattle.table.specs.Table.{erase_of, learn_of, lookup_of}
+use Rattle.table.specs.Table.{Learned, erase_of, learn_of, lookup_of}
 use Rattle.frame.specs.declared.Header.{Header}
 use Rattle.rules.proofs.Cases.{forwarding_flood, forwarding_onward}
 use Rattle.rules.proofs.LawsOfMask.{all_but_within, only_within}
@@ -48,9 +46,9 @@ pub data Way (s : Setup) (t : Table) (f : List ℕ) (a : Arrival) : Ruled → Ty
 
 module _ (s : Setup) (t : Table) (f : List ℕ) (a : Arrival) where
   -- an entry that stands names a port that is up
-  standing_up : (found : Found) (P : Found → Type 0) → P Absent → ((e : Entry) → names s.live e.port ≡ true → P (Here e)) → P (if_up s.live found)
-  standing_up Absent P none some = none
-  standing_up (Here e) P none some = by_test P (names s.live e.port) (some e) (λ _. none)
+  standing_up : (found : Option Entry) (P : Option Entry → Type 0) → P None → ((e : Entry) → names s.live e.port ≡ true → P (Some e)) → P (if_up s.live found)
+  standing_up None P none some = none
+  standing_up (Some e) P none some = by_test P (names s.live e.port) (some e) (λ _. none)
 
   pub rules_old : {flag : Bool} → too_old s a ≡ true → a.header.f ≡ flag → rules s t f a ≡ ending (cond flag t (erase_of t a.destination)) f false false X
   unfolding rules rule2

@@ -4,6 +4,7 @@ use mathlib.Core.Logic.{◌≢◌}
 use mathlib.Core.Bool.{Bool, true, false}
 use mathlib.Core.List.{List}
 use Prim.Native.Nat.{ℕ}
+use Rattle.std.specs.Prelude.{Option, Some, None}
 use Rattle.table.specs.declared.Table.{Table}
 use Rattle.filter.specs.Filter.{overwrites, recorded}
 use Rattle.frame.specs.declared.Header.{Header}
@@ -12,8 +13,7 @@ use Rattle.rules.specs.Rules.{Ruled, flagged, flood, ruled_as, sends, too_old, t
 use Rattle.rules.specs.Words.{Fair, Floods, Within, heard}
 use Rattle.rules.specs.declared.Setup.{Setup}
 use Rattle.rules.specs.declared.Arrival.{Arrival}
-use Rattle.rules.specs.declared.Sending.{Sending}
-use Rattle.rules.specs.declared.Sending.TheVariants.{Nothing, Copies}
+use Rattle.rules.specs.declared.Send.{Send}
 use Rattle.rules.specs.declared.Verdict.{Verdict}
 use Rattle.rules.specs.declared.Verdict.TheVariants.{X, D, G, E, F, N, B, H, U}
 
@@ -62,6 +62,6 @@ Because s f a E = Directed s a × (a.header.l ≡ false)
 Because s f a (U c) = Directed s a × ((p : ℕ) × (names s.live p ≡ true) × (p ≢ a.port) × (c ≡ sends (only p) a.header))
 
 -- where anything is sent
-abbrev pub FairBy : Setup → Arrival → Sending → Type 0
-FairBy s a Nothing = Unit {0}
-FairBy s a (Copies c) = Fair s a c
+abbrev pub FairBy : Setup → Arrival → Option Send → Type 0
+FairBy s a None = Unit {0}
+FairBy s a (Some c) = Fair s a c

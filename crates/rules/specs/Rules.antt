@@ -1,10 +1,8 @@
 -- Document 01, "One step": rules 1 to 11 in their order, each under its own number. t is the table and f the filter as a rule finds them.
-use Rattle.std.specs.Prelude.{ℕ, ◌+◌, ◌%◌, ◌^◌, ◌<◌, Bool, true, false, cond, not, ◌&&◌, ◌||◌, List, eqb, ltb}
+use Rattle.std.specs.Prelude.{ℕ, ◌+◌, ◌%◌, ◌^◌, ◌<◌, Bool, true, false, cond, not, ◌&&◌, ◌||◌, List, Option, Some, None, eqb, ltb}
 use Rattle.table.specs.declared.Table.{Table}
-use Rattle.table.specs.declared.Learned.{Learned}
-use Rattle.table.specs.declared.Found.{Found}
-use Rattle.table.specs.declared.Found.TheVariants.{Entry as Here, Absent}
-use Rattle.table.specs.Table.{lookup_of, learn_of, learned_of, erase_of}
+use Rattle.table.specs.declared.Entry.{Entry}
+use Rattle.table.specs.Table.{Learned, lookup_of, learn_of, learned_of, erase_of}
 use Rattle.filter.specs.Filter.{holds, overwrites, recorded}
 use Rattle.filter.specs.Triple.{triple}
 use Rattle.frame.specs.declared.Header.{Header}
@@ -22,9 +20,9 @@ use Rattle.rules.specs.declared.Verdict.TheVariants.{X, D, G, E, F, N, B, H, U}
 -- ---- what the rules speak of
 
 -- no entry was found
-abbrev pub is_absent : Found → Bool
-is_absent (Here e) = false
-is_absent Absent = true
+abbrev pub is_absent : Option Entry → Bool
+is_absent (Some e) = false
+is_absent None = true
 
 -- flood: all live ports but the arrival port
 abbrev pub flood : Setup → Arrival → ℕ
@@ -115,35 +113,35 @@ overwrote3 s f a = a.header.f && overwrites f s.salt (triple_of a a.header)
 
 -- ---- 4. Read the source's entry now; rules 5 and 6 use this reading.
 
-abbrev pub reading : Table → Arrival → Found
+abbrev pub reading : Table → Arrival → Option Entry
 reading t a = lookup_of t a.source
 
 -- ---- 5. Not a duplicate, L clear, entry present with HC 1: erase the destination.
 
 -- an entry with HC 1
-abbrev pub at_one : Found → Bool
-at_one (Here e) = eqb e.hops 1
-at_one Absent = false
+abbrev pub at_one : Option Entry → Bool
+at_one (Some e) = eqb e.hops 1
+at_one None = false
 
 -- whether rule 5 erases
-unfoldable pub erases : Arrival → Bool → Found → Bool
+unfoldable pub erases : Arrival → Bool → Option Entry → Bool
 erases a dup found = not dup && not a.header.l && at_one found
 
-unfoldable pub rule5 : Table → Arrival → Bool → Found → Table
+unfoldable pub rule5 : Table → Arrival → Bool → Option Entry → Table
 rule5 t a dup found = cond (erases a dup found) (erase_of t a.destination) t
 
 -- ---- 6. No entry, or HC less than the entry's, or L set and not a duplicate: learn source, arrival port, HC.
 
 -- no entry, or HC less than the entry's
-abbrev pub is_nearer : ℕ → Found → Bool
-is_nearer hc (Here e) = ltb hc e.hops
-is_nearer hc Absent = true
+abbrev pub is_nearer : ℕ → Option Entry → Bool
+is_nearer hc (Some e) = ltb hc e.hops
+is_nearer hc None = true
 
 -- whether rule 6 learns
-unfoldable pub learns : Arrival → Bool → Found → Bool
+unfoldable pub learns : Arrival → Bool → Option Entry → Bool
 learns a dup found = is_nearer a.header.hc found || (a.header.l && not dup)
 
-unfoldable pub rule6 : Table → Arrival → Bool → Found → Learned
+unfoldable pub rule6 : Table → Arrival → Bool → Option Entry → Learned
 rule6 t a dup found = cond (learns a dup found) (learn_of t a.source a.port a.header.hc) (learned_of false t)
 
 -- rules 4 to 6
@@ -163,17 +161,17 @@ rule8 s t f a = plainly t f (F (sends (flood s a) a.header))
 -- ---- 9. If no entry for the destination stands, or its port is down ..
 
 -- an entry counts where its port is up
-abbrev pub if_up : ℕ → Found → Found
-if_up live (Here e) = cond (names live e.port) (Here e) Absent
-if_up live Absent = Absent
+abbrev pub if_up : ℕ → Option Entry → Option Entry
+if_up live (Some e) = cond (names live e.port) (Some e) None
+if_up live None = None
 
 -- an entry that stands names one of sixteen ports
-abbrev pub PortWithin : Found → Type 0
-PortWithin (Here e) = e.port < 16
-PortWithin Absent = Unit {0}
+abbrev pub PortWithin : Option Entry → Type 0
+PortWithin (Some e) = e.port < 16
+PortWithin None = Unit {0}
 
 -- the entry that stands for an address
-unfoldable pub standing : Setup → Table → ℕ → Found
+unfoldable pub standing : Setup → Table → ℕ → Option Entry
 standing s t x = if_up s.live (lookup_of t x)
 
 -- .. with L clear, drop, G. With HC 1, set F, record the triple, flood, N. Otherwise set F, clear L, record, flood, and send on the arrival port also, B.
@@ -201,9 +199,9 @@ unfoldable pub rule11 : Table → List ℕ → Arrival → ℕ → After
 rule11 t f a port = plainly t f (U (sends (only port) a.header))
 
 -- rules 9 to 11, by the destination's entry
-abbrev pub onward_by : Setup → Table → List ℕ → Arrival → Found → After
-onward_by s t f a Absent = rule9 s t f a
-onward_by s t f a (Here e) = cond (eqb e.port a.port) (rule10 t f a) (rule11 t f a e.port)
+abbrev pub onward_by : Setup → Table → List ℕ → Arrival → Option Entry → After
+onward_by s t f a None = rule9 s t f a
+onward_by s t f a (Some e) = cond (eqb e.port a.port) (rule10 t f a) (rule11 t f a e.port)
 
 unfoldable pub onward : Setup → Table → List ℕ → Arrival → After
 onward s t f a = onward_by s t f a (standing s t a.destination)

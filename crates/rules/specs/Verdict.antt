@@ -1,24 +1,22 @@
 -- The paper's letter and values of each verdict: mask and header are 0 after a drop.
-use Rattle.std.specs.Prelude.{ℕ, List, ◌∷◌}
+use Rattle.std.specs.Prelude.{ℕ, List, ◌∷◌, Option, Some, None}
 use Rattle.frame.specs.Header.{bit, header_values, no_header}
 use Rattle.rules.specs.declared.Send.{Send}
 use Rattle.rules.specs.declared.Report.{Report}
-use Rattle.rules.specs.declared.Sending.{Sending}
-use Rattle.rules.specs.declared.Sending.TheVariants.{Nothing, Copies}
 use Rattle.rules.specs.declared.Verdict.{Verdict}
 use Rattle.rules.specs.declared.Verdict.TheVariants.{X, D, G, E, F, N, B, H, U}
 
 -- what a verdict sends
-abbrev pub sending_of : Verdict → Sending
-sending_of X = Nothing
-sending_of D = Nothing
-sending_of G = Nothing
-sending_of E = Nothing
-sending_of (F s) = Copies s
-sending_of (N s) = Copies s
-sending_of (B s) = Copies s
-sending_of (H s) = Copies s
-sending_of (U s) = Copies s
+abbrev pub sending_of : Verdict → Option Send
+sending_of X = None
+sending_of D = None
+sending_of G = None
+sending_of E = None
+sending_of (F s) = Some s
+sending_of (N s) = Some s
+sending_of (B s) = Some s
+sending_of (H s) = Some s
+sending_of (U s) = Some s
 
 -- its letter, as the byte that is printed
 abbrev pub letter_of : Verdict → ℕ
@@ -33,9 +31,9 @@ letter_of (H s) = 0x48
 letter_of (U s) = 0x55
 
 -- the mask and the header of what is sent
-abbrev pub sent_by : Sending → Send
-sent_by Nothing = record { mask = 0; header = no_header }
-sent_by (Copies s) = s
+abbrev pub sent_by : Option Send → Send
+sent_by None = record { mask = 0; header = no_header }
+sent_by (Some s) = s
 
 -- letter, mask, L, F, HC and nonce
 abbrev pub verdict_values : Verdict → List ℕ

@@ -1,21 +1,21 @@
 // Rules 1 to 11 of the practical AXE algorithm, as document 01 fixes them: flood, drop duplicates,
-// learn. Each rule is a function of its own number, on the table's three arrays and the filter
-// lent as slices, so that nothing is copied. What a rule leaves is said of all of them at once.
+// learn. Each rule is a function of its own number, on the table and the filter as they are lent.
+// What a rule leaves is said of all of them at once.
 #![tactic(auto)]
 
 pub mod masks;
 
 ghost use Rattle.std.specs.Prelude.{false, List, ◌≡◌, ℕ, ◌<◌};
+ghost use Rattle.filter.specs.Filter.{holds, overwrites, recorded};
 ghost use Rattle.frame.specs.Frame.{header_in};
-ghost use Rattle.table.specs.Table.{Sized, learned_of, table_of};
-ghost use Rattle.table.specs.declared.Table.{Table};
+ghost use Rattle.table.specs.Table.{learned_of};
 ghost use Rattle.rules.specs.Rules as spec;
 ghost use Rattle.rules.specs.Verdict.{letter_of, sending_of, sent_by};
 
 use filter::Recorded;
 use frame::{Frame, Header};
 use masks::{all_but, has_port, only_port};
-use table::{Found, erase_in, learn_in, lookup_in};
+use table::{Entry, Table};
 
 #[derive(Clone, Copy)]
 pub struct Setup {
@@ -56,12 +56,6 @@ pub enum Verdict {
     U(Send),
 }
 
-#[derive(Clone, Copy)]
-pub enum Sending {
-    Nothing,
-    Copies(Send),
-}
-
 // A verdict, and whether the record that came with it overwrote another triple.
 #[derive(Clone, Copy)]
 pub struct Outcome {
@@ -77,19 +71,12 @@ pub struct Report {
 }
 
 // What a verdict sends.
-pub fn sending_of(v: Verdict) -> Sending
+pub fn sending_of(v: Verdict) -> Option<Send>
     ensures { result ≡ sending_of v }
 {
     match v {
-        Verdict::X => Sending::Nothing,
-        Verdict::D => Sending::Nothing,
-        Verdict::G => Sending::Nothing,
-        Verdict::E => Sending::Nothing,
-        Verdict::F(s) => Sending::Copies(s),
-        Verdict::N(s) => Sending::Copies(s),
-        Verdict::B(s) => Sending::Copies(s),
-        Verdict::H(s) => Sending::Copies(s),
-        Verdict::U(s) => Sending::Copies(s),
+        Verdict::X | Verdict::D | Verdict::G | Verdict::E => None,
+        Verdict::F(s) | Verdict::N(s) | Verdict::B(s) | Verdict::H(s) | Verdict::U(s) => Some(s),
     }
 }
 
@@ -97,19 +84,15 @@ pub fn sending_of(v: Verdict) -> Sending
 pub fn sent_by(v: Verdict) -> Send
     ensures { result ≡ sent_by (sending_of v) }
 {
-    let sending = sending_of(v);
-    match sending {
-        Sending::Nothing => Send {
-            mask: 0,
-            header: Header {
-                l: false,
-                f: false,
-                hc: 0,
-                nonce: 0,
-            },
+    sending_of(v).unwrap_or(Send {
+        mask: 0,
+        header: Header {
+            l: false,
+            f: false,
+            hc: 0,
+            nonce: 0,
         },
-        Sending::Copies(s) => s,
-    }
+    })
 }
 
 // Its letter, as the byte that is printed.
@@ -129,63 +112,33 @@ pub fn letter_of(v: Verdict) -> u8
     }
 }
 
-fn is_absent(found: Found) -> bool
-    ensures { result ≡ spec.is_absent found }
-{
-    match found {
-        Found::Entry(_) => false,
-        Found::Absent => true,
-    }
-}
-
 // Rule 1 on a switch port: a hop count that was read has six bits, so it has room for one more.
 fn hop_header(frame: &[u8]) -> Header
     ensures { result ≡ spec.hop_header (header_in frame.now) }
 {
     let h = frame::header_in(frame);
-    Header {
-        l: h.l,
-        f: h.f,
-        hc: h.hc + 1,
-        nonce: h.nonce,
-    }
+    Header { hc: h.hc + 1, ..h }
 }
 
 // Rule 1.
-pub fn rule1(
-    s: Setup,
-    nonce: u32,
-    addresses: &[u64],
-    ports: &[u8],
-    hops: &[u8],
-    port: u8,
-    frame: &[u8],
-) -> Arrival
-    requires { Sized (table_of addresses.now ports.now hops.now) }
-    ensures { result ≡ spec.rule1 s nonce (table_of addresses.now ports.now hops.now) port frame.now }
+pub fn rule1(s: Setup, nonce: u32, table: &Table, port: u8, frame: &[u8]) -> Arrival
+    ensures { result ≡ spec.rule1 s nonce table.now port frame.now }
 {
     let source = frame::source_of(frame);
-    let destination = frame::destination_of(frame);
-    if has_port(s.host, port) {
-        let f = is_absent(lookup_in(addresses, ports, hops, source));
-        let header = Header {
+    let header = if has_port(s.host, port) {
+        Header {
             l: true,
-            f,
+            f: table.lookup(source).is_none(),
             hc: 1,
             nonce,
-        };
-        return Arrival {
-            port,
-            source,
-            destination,
-            header,
-        };
-    }
-    let header = hop_header(frame);
+        }
+    } else {
+        hop_header(frame)
+    };
     Arrival {
         port,
         source,
-        destination,
+        destination: frame::destination_of(frame),
         header,
     }
 }
@@ -200,17 +153,6 @@ pub fn nonce_after(s: Setup, nonce: u32, port: u8) -> u32
     nonce
 }
 
-fn flagged(l: bool, f: bool, h: Header) -> Header
-    ensures { result ≡ spec.flagged l f h }
-{
-    Header {
-        l,
-        f,
-        hc: h.hc,
-        nonce: h.nonce,
-    }
-}
-
 // A verdict that records nothing.
 fn plainly(verdict: Verdict) -> Outcome
     ensures { result ≡ spec.outcome verdict false }
@@ -222,17 +164,23 @@ fn plainly(verdict: Verdict) -> Outcome
 }
 
 // Rule 2, where the hop count is above the limit.
-fn rule2(addresses: &mut [u64], ports: &mut [u8], hops: &mut [u8], a: Arrival) -> Outcome
-    requires { Sized (table_of addresses.old ports.old hops.old) }
-    ensures after { (f : List ℕ) → spec.left (table_of addresses.new ports.new hops.new) f result ≡ spec.rule2 (table_of addresses.old ports.old hops.old) f a }
-    ensures sized { Sized (table_of addresses.new ports.new hops.new) }
+fn rule2(table: &mut Table, a: Arrival) -> Outcome
+    ensures { (f : List ℕ) → spec.left table.new f result ≡ spec.rule2 table.old f a }
 {
-    let h = a.header;
-    if h.f {
-        return plainly(Verdict::X);
+    if !a.header.f {
+        table.erase(a.destination);
     }
-    erase_in(addresses, ports, hops, a.destination);
     plainly(Verdict::X)
+}
+
+// The filter is asked for an arrival's triple under a header, and then has it.
+fn noted(s: Setup, filter: &mut [u8], a: Arrival, h: Header) -> Recorded
+    ensures duplicate { result.duplicate ≡ holds filter.old s.salt (spec.triple_of a h) }
+    ensures overwrote { result.overwrote ≡ overwrites filter.old s.salt (spec.triple_of a h) }
+    ensures filter { filter.new ≡ recorded filter.old s.salt (spec.triple_of a h) }
+{
+    let key = filter::triple_of(a.source, h.nonce, h.l as u8);
+    filter::record(filter, s.salt, &key)
 }
 
 // Rule 3: F set, the filter is asked and the triple recorded; F clear, neither.
@@ -241,10 +189,8 @@ fn rule3(s: Setup, filter: &mut [u8], a: Arrival) -> Recorded
     ensures overwrote { result.overwrote ≡ spec.overwrote3 s filter.old a }
     ensures filter { filter.new ≡ spec.rule3 s filter.old a }
 {
-    let h = a.header;
-    if h.f {
-        let key = filter::triple_of(a.source, h.nonce, h.l as u8);
-        return filter::record(filter, s.salt, &key);
+    if a.header.f {
+        return noted(s, filter, a, a.header);
     }
     Recorded {
         duplicate: false,
@@ -253,247 +199,162 @@ fn rule3(s: Setup, filter: &mut [u8], a: Arrival) -> Recorded
 }
 
 // Whether rule 5 erases.
-fn erases(a: Arrival, duplicate: bool, found: Found) -> bool
+fn erases(a: Arrival, duplicate: bool, found: Option<Entry>) -> bool
     ensures { result ≡ spec.erases a duplicate found }
 {
-    if duplicate {
-        return false;
-    }
-    if a.header.l {
-        return false;
-    }
-    match found {
-        Found::Entry(e) => e.hops == 1,
-        Found::Absent => false,
-    }
+    !duplicate && !a.header.l && found.is_some_and(|e| e.hops == 1)
 }
 
 // Whether rule 6 learns.
-fn learns(a: Arrival, duplicate: bool, found: Found) -> bool
+fn learns(a: Arrival, duplicate: bool, found: Option<Entry>) -> bool
     ensures { result ≡ spec.learns a duplicate found }
 {
-    let Found::Entry(e) = found else {
-        return true;
-    };
-    if a.header.hc < e.hops {
-        return true;
-    }
-    if duplicate {
-        return false;
-    }
-    a.header.l
+    found.is_none_or(|e| a.header.hc < e.hops) || (a.header.l && !duplicate)
 }
 
-fn rule5(
-    addresses: &mut [u64],
-    ports: &mut [u8],
-    hops: &mut [u8],
-    a: Arrival,
-    duplicate: bool,
-    found: Found,
-)
-    requires { Sized (table_of addresses.old ports.old hops.old) }
-    ensures table { table_of addresses.new ports.new hops.new ≡ spec.rule5 (table_of addresses.old ports.old hops.old) a duplicate found }
-    ensures sized { Sized (table_of addresses.new ports.new hops.new) }
+fn rule5(table: &mut Table, a: Arrival, duplicate: bool, found: Option<Entry>)
+    ensures { table.new ≡ spec.rule5 table.old a duplicate found }
 {
     if erases(a, duplicate, found) {
-        erase_in(addresses, ports, hops, a.destination);
+        table.erase(a.destination);
     }
 }
 
 // Says whether the table was full.
-fn rule6(
-    addresses: &mut [u64],
-    ports: &mut [u8],
-    hops: &mut [u8],
-    a: Arrival,
-    duplicate: bool,
-    found: Found,
-) -> bool
-    requires { Sized (table_of addresses.old ports.old hops.old) }
-    ensures learned { learned_of result (table_of addresses.new ports.new hops.new) ≡ spec.rule6 (table_of addresses.old ports.old hops.old) a duplicate found }
-    ensures sized { Sized (table_of addresses.new ports.new hops.new) }
+fn rule6(table: &mut Table, a: Arrival, duplicate: bool, found: Option<Entry>) -> bool
+    ensures { learned_of result table.new ≡ spec.rule6 table.old a duplicate found }
 {
-    if learns(a, duplicate, found) {
-        learn_in(addresses, ports, hops, a.source, a.port, a.header.hc)
-    } else {
-        false
-    }
+    learns(a, duplicate, found) && table.learn(a.source, a.port, a.header.hc)
 }
 
 // Rules 4 to 6: the source's entry is read before rule 5 may erase it.
-fn learning(
-    addresses: &mut [u64],
-    ports: &mut [u8],
-    hops: &mut [u8],
-    a: Arrival,
-    duplicate: bool,
-) -> bool
-    requires { Sized (table_of addresses.old ports.old hops.old) }
-    ensures learned { learned_of result (table_of addresses.new ports.new hops.new) ≡ spec.learning (table_of addresses.old ports.old hops.old) a duplicate }
-    ensures sized { Sized (table_of addresses.new ports.new hops.new) }
+fn learning(table: &mut Table, a: Arrival, duplicate: bool) -> bool
+    ensures { learned_of result table.new ≡ spec.learning table.old a duplicate }
 {
-    let found = lookup_in(addresses, ports, hops, a.source);
-    rule5(addresses, ports, hops, a, duplicate, found);
-    rule6(addresses, ports, hops, a, duplicate, found)
+    let found = table.lookup(a.source);
+    rule5(table, a, duplicate, found);
+    rule6(table, a, duplicate, found)
 }
 
 // The entry of an address whose port is up.
-fn standing(s: Setup, addresses: &[u64], ports: &[u8], hops: &[u8], address: u64) -> Found
-    requires { Sized (table_of addresses.now ports.now hops.now) }
-    ensures entry { result ≡ spec.standing s (table_of addresses.now ports.now hops.now) address }
+fn standing(s: Setup, table: &Table, address: u64) -> Option<Entry>
+    ensures entry { result ≡ spec.standing s table.now address }
     ensures port { spec.PortWithin result }
 {
-    let Found::Entry(e) = lookup_in(addresses, ports, hops, address) else {
-        return Found::Absent;
-    };
-    if has_port(s.live, e.port) {
-        Found::Entry(e)
-    } else {
-        Found::Absent
-    }
+    table.lookup(address).filter(|e| has_port(s.live, e.port))
 }
 
-// Rule 9, where no entry for the destination stands.
+// Rule 9, where no entry for the destination stands. The first switch keeps L, and its flood leaves the arrival port out.
 fn rule9(s: Setup, filter: &mut [u8], a: Arrival) -> Outcome
     requires { a.port < 16 }
     ensures { (t : Table) → spec.left t filter.new result ≡ spec.rule9 s t filter.old a }
 {
     let h = a.header;
-    if h.l {
-        if h.hc == 1 {
-            let sent = Send {
-                mask: all_but(a.port, s.live),
-                header: flagged(true, true, h),
-            };
-            let key = filter::triple_of(a.source, h.nonce, 1);
-            let r = filter::record(filter, s.salt, &key);
-            return Outcome {
-                verdict: Verdict::N(sent),
-                overwrote: r.overwrote,
-            };
-        }
-        let sent = Send {
-            mask: s.live,
-            header: flagged(false, true, h),
-        };
-        let key = filter::triple_of(a.source, h.nonce, 0);
-        let r = filter::record(filter, s.salt, &key);
-        return Outcome {
-            verdict: Verdict::B(sent),
-            overwrote: r.overwrote,
-        };
+    if !h.l {
+        return plainly(Verdict::G);
     }
-    plainly(Verdict::G)
+    let first = h.hc == 1;
+    let header = Header {
+        l: first,
+        f: true,
+        ..h
+    };
+    let overwrote = noted(s, filter, a, header).overwrote;
+    let verdict = if first {
+        Verdict::N(Send {
+            mask: all_but(a.port, s.live),
+            header,
+        })
+    } else {
+        Verdict::B(Send {
+            mask: s.live,
+            header,
+        })
+    };
+    Outcome {
+        verdict,
+        overwrote,
+    }
 }
 
 // Rule 10, where the destination's entry names the arrival port.
-fn rule10(addresses: &mut [u64], ports: &mut [u8], hops: &mut [u8], a: Arrival) -> Outcome
-    requires { Sized (table_of addresses.old ports.old hops.old) × (a.port < 16) }
-    ensures after { (f : List ℕ) → spec.left (table_of addresses.new ports.new hops.new) f result ≡ spec.rule10 (table_of addresses.old ports.old hops.old) f a }
-    ensures sized { Sized (table_of addresses.new ports.new hops.new) }
+fn rule10(table: &mut Table, a: Arrival) -> Outcome
+    requires { a.port < 16 }
+    ensures { (f : List ℕ) → spec.left table.new f result ≡ spec.rule10 table.old f a }
 {
-    let h = a.header;
-    if h.l {
+    if a.header.l {
         return plainly(Verdict::H(Send {
             mask: only_port(a.port),
-            header: flagged(false, h.f, h),
+            header: Header {
+                l: false,
+                ..a.header
+            },
         }));
     }
-    erase_in(addresses, ports, hops, a.destination);
+    table.erase(a.destination);
     plainly(Verdict::E)
 }
 
 // Rules 9 to 11, by the destination's entry.
-fn onward(
-    s: Setup,
-    addresses: &mut [u64],
-    ports: &mut [u8],
-    hops: &mut [u8],
-    filter: &mut [u8],
-    a: Arrival,
-) -> Outcome
-    requires { Sized (table_of addresses.old ports.old hops.old) × (a.port < 16) }
-    ensures after { spec.left (table_of addresses.new ports.new hops.new) filter.new result ≡ spec.onward s (table_of addresses.old ports.old hops.old) filter.old a }
-    ensures sized { Sized (table_of addresses.new ports.new hops.new) }
+fn onward(s: Setup, table: &mut Table, filter: &mut [u8], a: Arrival) -> Outcome
+    requires { a.port < 16 }
+    ensures { spec.left table.new filter.new result ≡ spec.onward s table.old filter.old a }
 {
-    let Found::Entry(e) = standing(s, addresses, ports, hops, a.destination) else {
+    let Some(e) = standing(s, table, a.destination) else {
         return rule9(s, filter, a);
     };
-    let h = a.header;
     if e.port == a.port {
-        return rule10(addresses, ports, hops, a);
+        return rule10(table, a);
     }
     plainly(Verdict::U(Send {
         mask: only_port(e.port),
-        header: h,
+        header: a.header,
     }))
 }
 
 // Rules 7 to 11.
 fn forwarding(
     s: Setup,
-    addresses: &mut [u64],
-    ports: &mut [u8],
-    hops: &mut [u8],
+    table: &mut Table,
     filter: &mut [u8],
     a: Arrival,
     duplicate: bool,
 ) -> Outcome
-    requires { Sized (table_of addresses.old ports.old hops.old) × (a.port < 16) }
-    ensures after { spec.left (table_of addresses.new ports.new hops.new) filter.new result ≡ spec.forwarding s (table_of addresses.old ports.old hops.old) filter.old a duplicate }
-    ensures sized { Sized (table_of addresses.new ports.new hops.new) }
+    requires { a.port < 16 }
+    ensures { spec.left table.new filter.new result ≡ spec.forwarding s table.old filter.old a duplicate }
 {
     if duplicate {
         return plainly(Verdict::D);
     }
-    let h = a.header;
-    if h.f {
+    if a.header.f {
         return plainly(Verdict::F(Send {
             mask: all_but(a.port, s.live),
-            header: h,
+            header: a.header,
         }));
     }
-    onward(s, addresses, ports, hops, filter, a)
+    onward(s, table, filter, a)
 }
 
 fn report_of(full: bool, overwrote: bool, o: Outcome) -> Report
     ensures { result ≡ spec.report_of full overwrote o }
 {
-    let verdict = o.verdict;
-    if overwrote {
-        return Report {
-            verdict,
-            full,
-            overwrote: true,
-        };
-    }
     Report {
-        verdict,
+        verdict: o.verdict,
         full,
-        overwrote: o.overwrote,
+        overwrote: overwrote || o.overwrote,
     }
 }
 
 // Rules 2 to 11.
-pub fn rules(
-    s: Setup,
-    addresses: &mut [u64],
-    ports: &mut [u8],
-    hops: &mut [u8],
-    filter: &mut [u8],
-    a: Arrival,
-) -> Report
-    requires { Sized (table_of addresses.old ports.old hops.old) × (a.port < 16) }
-    ensures after { spec.ruled_as (table_of addresses.new ports.new hops.new) filter.new result ≡ spec.rules s (table_of addresses.old ports.old hops.old) filter.old a }
-    ensures sized { Sized (table_of addresses.new ports.new hops.new) }
+pub fn rules(s: Setup, table: &mut Table, filter: &mut [u8], a: Arrival) -> Report
+    requires { a.port < 16 }
+    ensures { spec.ruled_as table.new filter.new result ≡ spec.rules s table.old filter.old a }
 {
-    let h = a.header;
-    if s.limit < h.hc {
-        return report_of(false, false, rule2(addresses, ports, hops, a));
+    if s.limit < a.header.hc {
+        return report_of(false, false, rule2(table, a));
     }
     let asked = rule3(s, filter, a);
-    let full = learning(addresses, ports, hops, a, asked.duplicate);
-    let o = forwarding(s, addresses, ports, hops, filter, a, asked.duplicate);
+    let full = learning(table, a, asked.duplicate);
+    let o = forwarding(s, table, filter, a, asked.duplicate);
     report_of(full, asked.overwrote, o)
 }

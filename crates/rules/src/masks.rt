@@ -6,10 +6,7 @@ ghost use Rattle.rules.specs.Mask.{names, only, all_but};
 pub fn has_port(mask: u16, port: u8) -> bool
     ensures { result ≡ names mask port }
 {
-    if 16 <= port {
-        return false;
-    }
-    mask >> (port as u16) & 1 == 1
+    port < 16 && mask >> (port as u16) & 1 == 1
 }
 
 pub fn only_port(port: u8) -> u16
@@ -23,5 +20,5 @@ pub(crate) fn all_but(port: u8, mask: u16) -> u16
     requires { port < 16 }
     ensures { result ≡ all_but port mask }
 {
-    mask & (65535 - only_port(port))
+    mask & !only_port(port)
 }

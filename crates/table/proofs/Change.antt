@@ -6,14 +6,13 @@ use Prim.Native.Nat.{ℕ, ◌<◌, ◌≤◌}
 use native.Mathlib.Decide.{dec_lt, ℕ_discrete}
 use native.Mathlib.Omega.{arith}
 use borrow.Author.Tests.{eq-eqb, ne_eqb, lt-ltb, le-ltb}
+use Rattle.std.specs.Prelude.{Option, Some, None}
+use Rattle.table.specs.declared.Entry.{Entry}
 use Rattle.table.specs.declared.Table.{Table}
-use Rattle.table.specs.declared.Found.{Found}
-use Rattle.table.specs.declared.Found.TheVariants.{Entry as Here, Absent}
-use Rattle.table.specs.declared.Learned.{Learned}
-use Rattle.table.specs.Table.{entry_at, erase_at, erase_of, found_at, learn_at, learn_of, learned_of, lookup_of, put, slot_for, slot_of, slots}
+use Rattle.table.specs.Table.{Learned, entry_at, erase_at, erase_of, found_at, learn_at, learn_of, learned_of, lookup_of, put, slot_for, slot_of, slots}
 
-pub lookup_cases : (P : Found → Type 0) (t : Table) (x : ℕ) → (x ≢ 0 → slot_of x t.addresses < slots → P (Here (entry_at t (slot_of x t.addresses))))
-    → ((x ≡ 0) ⊎ (slots ≤ slot_of x t.addresses) → P Absent) → P (lookup_of t x)
+pub lookup_cases : (P : Option Entry → Type 0) (t : Table) (x : ℕ) → (x ≢ 0 → slot_of x t.addresses < slots → P (Some (entry_at t (slot_of x t.addresses))))
+    → ((x ≡ 0) ⊎ (slots ≤ slot_of x t.addresses) → P None) → P (lookup_of t x)
 unfolding lookup_of found_at
 lookup_cases P t x stands absent = by_cases (ℕ_discrete x 0)
     (λ e. rw (eq-eqb x 0 e) (absent (inl e)))

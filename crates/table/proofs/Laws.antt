@@ -8,53 +8,42 @@ use native.Mathlib.Decide.{ℕ_discrete}
 use native.Mathlib.Nat.{not-le_of_lt}
 use native.Mathlib.Omega.{arith}
 use lib.ListN.{length, get_or-replicate}
+use Rattle.std.specs.Prelude.{Option, Some, None}
 use Rattle.table.specs.declared.Table.{Table}
 use Rattle.table.specs.declared.Entry.{Entry}
-use Rattle.table.specs.declared.Found.{Found}
-use Rattle.table.specs.declared.Found.TheVariants.{Entry as Here, Absent}
-use Rattle.table.specs.Table.{Empty, Holds, MayHold, Sized, WellFormed, address_at, empty_table, entry_at, entry_of, erase_of, hops_at, learn_of, lookup_of, port_at, slot_for, slot_of, slots, told, well_formed}
+use Rattle.table.specs.Table.{Empty, Holds, MayHold, Sized, WellFormed, address_at, empty_table, entry_at, entry_of, erase_of, hops_at, learn_of, lookup_of, port_at, slot_for, slot_of, slots, well_formed}
 use Rattle.table.proofs.Slots.{for_free, for_least, for_none, slot_stands}
 use Rattle.table.proofs.Put.{first_holds, found_apart, holds_first, lookup_here, lookup_none, put_found, put_holds, put_other, put_sized, zero_absent}
 use Rattle.table.proofs.Change.{erase_cases, learn_cases, lookup_cases}
 use Rattle.table.proofs.Test.{table_test}
 use Rattle.table.proofs.WellFormed.{for_only, full_many, own_slot, put_keeps, zeroed_gone, zeroed_same}
 
--- ---- Answers
-
--- different answers tell different values
-pub told_apart : (a b : Found) → told a ≡ told b → a ≡ b
-unfolding told
-told_apart (Here a) (Here b) e = let p : a.port ≡ b.port = cc in let h : a.hops ≡ b.hops = cc in λ i. Here (record { port = p i; hops = h i })
-told_apart (Here a) Absent e = cc
-told_apart Absent (Here b) e = cc
-told_apart Absent Absent e = refl
-
 -- ---- Any table of 64 slots
 
 -- address zero finds nothing
-pub lookup_zero : (t : Table) → lookup_of t 0 ≡ Absent
+pub lookup_zero : (t : Table) → lookup_of t 0 ≡ None
 lookup_zero t = zero_absent t
 
 module _ {t : Table} (z : Sized t) where
   -- what is found stands in a slot, with the entry found
-  pub found_holds : (x : ℕ) (e : Entry) → lookup_of t x ≡ Here e → (k : Holds t x) × (entry_at t k.slot ≡ e)
+  pub found_holds : (x : ℕ) (e : Entry) → lookup_of t x ≡ Some e → (k : Holds t x) × (entry_at t k.slot ≡ e)
   unfolding first_holds
-  found_holds x e = lookup_cases (λ f. f ≡ Here e → (k : Holds t x) × (entry_at t k.slot ≡ e)) t x (λ n l q. (first_holds z x n l, cc)) (λ _ q. absurd (found_apart e (sym q)))
+  found_holds x e = lookup_cases (λ f. f ≡ Some e → (k : Holds t x) × (entry_at t k.slot ≡ e)) t x (λ n l q. (first_holds z x n l, cc)) (λ _ q. absurd (found_apart e (sym q)))
 
   -- what stands in a slot is found
-  pub holds_found : {x : ℕ} → Holds t x → (e : Entry) × (lookup_of t x ≡ Here e)
+  pub holds_found : {x : ℕ} → Holds t x → (e : Entry) × (lookup_of t x ≡ Some e)
   holds_found {x} k = (entry_at t (slot_of x t.addresses), lookup_here t x k.nonzero (holds_first z k))
 
   -- absent is what stands in no slot
-  pub absent_iff : (x : ℕ) → (lookup_of t x ≡ Absent) ↔ (¬ Holds t x)
+  pub absent_iff : (x : ℕ) → (lookup_of t x ≡ None) ↔ (¬ Holds t x)
   absent_iff x =
-      (λ q k. found_apart (holds_found k).0 (sym (holds_found k).1 ∙ q), lookup_cases (λ f. ¬ Holds t x → f ≡ Absent) t x (λ n l m. absurd (m (first_holds z x n l))) (λ _ _. refl))
+      (λ q k. found_apart (holds_found k).0 (sym (holds_found k).1 ∙ q), lookup_cases (λ f. ¬ Holds t x → f ≡ None) t x (λ n l m. absurd (m (first_holds z x n l))) (λ _ _. refl))
 
   -- learning address x with port p and hop count h
   module _ (x p h : ℕ) where
     -- unless the table was full, the address is found with port and hop count
-    pub learn_same : x ≢ 0 → (learn_of t x p h).full ≡ false → lookup_of (learn_of t x p h).table x ≡ Here (entry_of p h)
-    learn_same n = learn_cases (λ r. r.full ≡ false → lookup_of r.table x ≡ Here (entry_of p h)) t x p h
+    pub learn_same : x ≢ 0 → (learn_of t x p h).full ≡ false → lookup_of (learn_of t x p h).table x ≡ Some (entry_of p h)
+    learn_same n = learn_cases (λ r. r.full ≡ false → lookup_of r.table x ≡ Some (entry_of p h)) t x p h
         (λ l _. put_found (slot_for x t.addresses) x p h z n l (for_least x t.addresses))
         (λ _ q. absurd (true≢false q))
 
@@ -69,8 +58,8 @@ module _ {t : Table} (z : Sized t) where
     full_unchanged = learn_cases (λ r. r.full ≡ true → r.table ≡ t) t x p h (λ _ q. absurd (false≢true q)) (λ _ _. refl)
 
     -- only an absent address finds it full
-    pub full_absent : (learn_of t x p h).full ≡ true → lookup_of t x ≡ Absent
-    full_absent = learn_cases (λ r. r.full ≡ true → lookup_of t x ≡ Absent) t x p h (λ _ q. absurd (false≢true q))
+    pub full_absent : (learn_of t x p h).full ≡ true → lookup_of t x ≡ None
+    full_absent = learn_cases (λ r. r.full ≡ true → lookup_of t x ≡ None) t x p h (λ _ q. absurd (false≢true q))
         (λ l _. lookup_none t x (omega (arith, z.addresses, (for_none x t.addresses (omega (arith, z.addresses))).0)))
 
     -- one that stands in a slot never does
@@ -106,22 +95,22 @@ module _ {t : Table} (z : Sized t) where
 
 module _ {n : ℕ} {t : Table} (w : WellFormed n t) where
   -- the address in a slot is found with what the slot holds
-  pub slot_found : (i : ℕ) → i < slots → address_at t i ≢ 0 → lookup_of t (address_at t i) ≡ Here (entry_at t i)
+  pub slot_found : (i : ℕ) → i < slots → address_at t i ≢ 0 → lookup_of t (address_at t i) ≡ Some (entry_at t i)
   slot_found i l k = lookup_here t (address_at t i) k (rw (own_slot w i l k) l) ∙ rw (own_slot w i l k)
 
   -- what is found is what a slot may hold
-  pub found_may_hold : (x : ℕ) (e : Entry) → lookup_of t x ≡ Here e → MayHold n x e.port e.hops
+  pub found_may_hold : (x : ℕ) (e : Entry) → lookup_of t x ≡ Some e → MayHold n x e.port e.hops
   found_may_hold x e q =
       let (k, d) = found_holds w.sized x e q in
       ⊎_elim (λ (v : Empty (address_at t k.slot) (port_at t k.slot) (hops_at t k.slot)). absurd (k.nonzero (sym k.here ∙ v.address)))
       (λ v. rw (k.here, ap (λ (f : Entry). f.port) d, ap (λ (f : Entry). f.hops) d) at v) (w.slot k.slot k.within)
 
   -- an erased address is absent
-  pub erase_same : (x : ℕ) → lookup_of (erase_of t x) x ≡ Absent
+  pub erase_same : (x : ℕ) → lookup_of (erase_of t x) x ≡ None
   erase_same x = (absent_iff (erase_sized w.sized x) x).1 (erase_cases (λ u. ¬ Holds u x) t x (zeroed_gone w x) (λ l k. not-le_of_lt (holds_first w.sized k) l))
 
   -- erasing an absent address, zero among them, changes nothing
-  pub erase_absent : (x : ℕ) → lookup_of t x ≡ Absent → erase_of t x ≡ t
+  pub erase_absent : (x : ℕ) → lookup_of t x ≡ None → erase_of t x ≡ t
   erase_absent x q = erase_cases (λ u. u ≡ t) t x
       (λ l. by_cases (ℕ_discrete x 0) (zeroed_same w x l) (λ k. absurd (found_apart (entry_at t (slot_of x t.addresses)) (sym (lookup_here t x k l) ∙ q))))
       (λ _. refl)
@@ -148,7 +137,7 @@ empty_well_formed n = record {
 }
 
 -- and finds nothing
-pub empty_absent : (x : ℕ) → lookup_of empty_table x ≡ Absent
+pub empty_absent : (x : ℕ) → lookup_of empty_table x ≡ None
 unfolding empty_table
 empty_absent x = (absent_iff (empty_well_formed 0).sized x).1 (λ k. k.nonzero (sym k.here ∙ get_or-replicate slots k.slot 0 0 k.within))
 

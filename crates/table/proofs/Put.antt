@@ -9,9 +9,9 @@ use lib.ListN.{length-set, get_or, set}
 use lib.Dec.{eqb}
 use lib.Seq.{get_or-set_same, get_or-set_other, set-get_or}
 use borrow.Author.Tests.{eq-eqb, ne_eqb, lt-ltb, le-ltb}
+use Rattle.std.specs.Prelude.{Some, None}
 use Rattle.table.specs.declared.Table.{Table}
 use Rattle.table.specs.declared.Entry.{Entry}
-use Rattle.table.specs.declared.Found.TheVariants.{Entry as Here, Absent}
 use Rattle.table.specs.Table.{Holds, Sized, address_at, entry_at, entry_of, found_at, hops_at, lookup_of, port_at, put, slot_of, slots}
 use Rattle.table.proofs.Slots.{slot_least, slot_set, slot_set_other, slot_stands}
 
@@ -23,19 +23,19 @@ pub not_above_zero : (x : ℕ) → x ≤ 0 → eqb x 0 ≡ true
 not_above_zero x h = eq-eqb x 0 (omega arith)
 
 -- an entry is not absent
-pub found_apart : (e : Entry) → Here e ≢ Absent
+pub found_apart : (e : Entry) → Some e ≢ None
 found_apart e q = let o : ◌≡◌ {A = ℕ} 0 1 = cc in omega arith
 
-pub zero_absent : (t : Table) → lookup_of t 0 ≡ Absent
+pub zero_absent : (t : Table) → lookup_of t 0 ≡ None
 unfolding lookup_of
 zero_absent t = refl
 
 module _ (t : Table) (x : ℕ) where
-  pub lookup_none : slots ≤ slot_of x t.addresses → lookup_of t x ≡ Absent
+  pub lookup_none : slots ≤ slot_of x t.addresses → lookup_of t x ≡ None
   unfolding lookup_of found_at
   lookup_none h = by_cases (ℕ_discrete x 0) (λ e. rw (eq-eqb x 0 e)) (λ n. rw (ne_eqb x 0 n, le-ltb _ _ h))
 
-  pub lookup_here : x ≢ 0 → slot_of x t.addresses < slots → lookup_of t x ≡ Here (entry_at t (slot_of x t.addresses))
+  pub lookup_here : x ≢ 0 → slot_of x t.addresses < slots → lookup_of t x ≡ Some (entry_at t (slot_of x t.addresses))
   unfolding lookup_of found_at
   lookup_here n h = rw (ne_eqb x 0 n, lt-ltb _ _ h)
 
@@ -81,7 +81,7 @@ module _ {t : Table} (s x p h : ℕ) (z : Sized t) where
     unfolding put
     its_slot = slot_set x t.addresses s (omega (arith, z.addresses)) k
 
-    pub put_found : lookup_of (put t s x p h) x ≡ Here (entry_of p h)
+    pub put_found : lookup_of (put t s x p h) x ≡ Some (entry_of p h)
     put_found = lookup_here (put t s x p h) x n (rw its_slot l) ∙ rw (its_slot, put_entry l)
 
   -- another address, neither overwritten nor written, is found as before

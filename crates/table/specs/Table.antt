@@ -1,14 +1,11 @@
 -- The learning table of document 01, "The head's switch". A slot is a place of three lists: an address, a port and a hop count. Clients cite what
 -- stands above "The tests", by the laws of proofs/Laws; the tests are what the code computes of `WellFormed`, and the laws say that they agree.
-use Rattle.std.specs.Prelude.{ℕ, suc, ◌+◌, ◌/◌, ◌%◌, ◌^◌, ◌<◌, ◌≤◌, ◌≡◌, ◌⊎◌, ◌≢◌, Bool, true, false, cond, ◌&&◌, List, [], ◌∷◌, drop, get_or, set, replicate, length, eqb, ltb, leb}
+use Rattle.std.specs.Prelude.{ℕ, suc, ◌+◌, ◌/◌, ◌%◌, ◌^◌, ◌<◌, ◌≤◌, ◌≡◌, ◌⊎◌, ◌≢◌, Bool, true, false, cond, ◌&&◌, List, [], ◌∷◌, Option, Some, None, drop, get_or, set, replicate, length, eqb, ltb, leb}
 use Rattle.std.specs.Int.Bits.{bit_xor}
 use Rattle.wire.specs.Address.{Source, is_source}
 use Rattle.wire.specs.Below.{all_below}
 use Rattle.table.specs.declared.Table.{Table}
 use Rattle.table.specs.declared.Entry.{Entry}
-use Rattle.table.specs.declared.Learned.{Learned}
-use Rattle.table.specs.declared.Found.{Found}
-use Rattle.table.specs.declared.Found.TheVariants.{Entry as Here, Absent}
 
 -- ---- Numbers of document 01
 
@@ -79,18 +76,13 @@ pub record NoneOf (x a b c d : ℕ) : Type 0 where
 
 -- ---- Looking up
 
--- slot s is found, or absent where there is no such slot
-unfoldable pub found_at : Table → ℕ → Found
-found_at t s = cond (ltb s slots) (Here (entry_at t s)) Absent
+-- slot s is found, or nothing where there is no such slot
+unfoldable pub found_at : Table → ℕ → Option Entry
+found_at t s = cond (ltb s slots) (Some (entry_at t s)) None
 
 -- an address is found in its slot; address zero finds nothing
-unfoldable pub lookup_of : Table → ℕ → Found
-lookup_of t x = cond (eqb x 0) Absent (found_at t (slot_of x t.addresses))
-
--- the values of an answer: port and hop count, or none
-unfoldable pub told : Found → List ℕ
-told (Here e) = e.port ∷ e.hops ∷ []
-told Absent = []
+unfoldable pub lookup_of : Table → ℕ → Option Entry
+lookup_of t x = cond (eqb x 0) None (found_at t (slot_of x t.addresses))
 
 -- ---- Learning and erasing
 
@@ -99,6 +91,10 @@ unfoldable pub put : Table → ℕ → ℕ → ℕ → ℕ → Table
 put t s x p h = table_of (set t.addresses s x) (set t.ports s p) (set t.hops s h)
 
 -- whether the table was full, and the table afterwards
+pub record Learned : Type 0 where
+  pub full : Bool
+  pub table : Table
+
 abbrev pub learned_of : Bool → Table → Learned
 learned_of full table = record { full = full; table = table }
 
