@@ -2,14 +2,16 @@
 use Prim.Native.Nat.{ℕ, zero, suc, ◌+◌, ◌*◌, ◌/◌, ◌%◌, ◌^◌, ◌≤◌, ◌<◌}
 use mathlib.Core.Path.{◌≡◌, refl, ap, ◌∙◌}
 use mathlib.Core.List.{List, [], ◌∷◌, ◌++◌, append_assoc}
-use native.Mathlib.Nat.{pow-suc, one-le-pow, mul_assoc, mul_comm, add-mul, add_assoc, zero-add}
+use Rattle.std.proofs.lemmas.List.{take_more}
+use native.Mathlib.Numerals.{add-one}
+use native.Mathlib.Nat.{pow-suc, pow-le-pow_right, one-le-pow, mul_assoc, mul_comm, add-mul, add_assoc, zero-add}
 use native.Mathlib.Omega.{arith}
 use lib.ListN.{length, get_or, take, drop, length-append, length-take, length-drop}
 use lib.Seq.{take_at, drop_at, drop-drop}
 use mathlib.Core.Bool.{true, not, ◌&&◌, and-eq-true_iff}
 use mathlib.Core.Logic.{◌↔◌}
 use lib.Dec.{eqb, ltb}
-use borrow.Author.Tests.{le-leb, lt-ltb, eq-eqb, ne_eqb, ltb-true, eqb-true, eqb-false, not-true}
+use borrow.Author.Tests.{le-leb, lt-leb, lt-ltb, eq-eqb, ne_eqb, ltb-true, eqb-true, eqb-false, not-true}
 use lib.Arith.{digits_lt, digits_div, mod-mul}
 use Rattle.wire.specs.Address.{group_bit, Source, is_source}
 use Rattle.wire.specs.Wire.{number, number_after, bytes_of, part, put, put_in, AreBytes}
@@ -64,6 +66,26 @@ pub read_back : (bs : List ℕ) → AreBytes bs → bytes_of (length bs) (number
 unfolding number
 read_back bs h = read_behind 0 bs h
 
+-- a number is read on where the bytes go on
+pub after_append : (m : ℕ) (a b : List ℕ) → number_after m (a ++ b) ≡ number_after (number_after m a) b
+unfolding number_after
+after_append m [] b = refl
+after_append m (x ∷ xs) b = after_append (m * 256 + x) xs b
+
+-- one byte more
+pub number_next : (l : List ℕ) (i : ℕ) → i < length l → number (take (i + 1) l) ≡ number (take i l) * 256 + get_or l i 0
+unfolding number number_after
+number_next l i h = rw (take_more l i 0 h, after_append)
+
+-- a number with one byte more is so small, and eight bytes fit a word
+pub next_small : (n i b : ℕ) → n < 256 ^ i → b < 256 → n * 256 + b < 256 ^ (i + 1)
+next_small n i b h small = rw (add-one, pow-suc) (digits_lt h small)
+
+pub next_fits : (n i b : ℕ) → n < 256 ^ i → i < 8 → b < 256 → n * 256 + b < 2 ^ 64
+next_fits n i b h few small =
+    let most : 256 ^ (i + 1) ≤ 256 ^ 8 = pow-le-pow_right {n = 256} (omega arith) {i = i + 1} {j = 8} (omega arith) in
+    omega (arith, next_small n i b h small)
+
 -- one byte's number is the byte
 pub number_one : (l : List ℕ) (at : ℕ) → number (part at 1 l) ≡ get_or l at 0
 unfolding number number_after
@@ -90,6 +112,11 @@ put_put l at a b room =
 pub put_fits : (l : List ℕ) (at : ℕ) (bs : List ℕ) → at + length bs ≤ length l → put_in l at bs ≡ put l at bs
 unfolding put_in
 put_fits l at bs room = rw (le-leb (at + length bs) (length l) room)
+
+-- and those that don't are not
+pub put_not : (l : List ℕ) (at : ℕ) (bs : List ℕ) → length l < at + length bs → l ≡ put_in l at bs
+unfolding put_in
+put_not l at bs over = rw (lt-leb (at + length bs) (length l) over)
 
 -- bytes put behind others that were put are put with them
 pub put_next : (l : List ℕ) (at next : ℕ) (a b : List ℕ) → next ≡ at + length a → next + length b ≤ length l → put_in (put_in l at a) next b ≡ put_in l at (a ++ b)

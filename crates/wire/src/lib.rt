@@ -18,33 +18,15 @@ pub fn wide(b: u8) -> u64
     b as u64
 }
 
-fn least(a: usize, b: usize) -> usize
-    ensures { result ≡ min a b }
-{
-    if a < b { a } else { b }
-}
-
-// How many bytes are there to be read: a u64 has room for eight.
-fn there(bytes: &[u8], at: usize, width: usize) -> usize
-    ensures { result ≡ length (part at (min width 8) bytes.now) }
-{
-    if bytes.len() <= at {
-        return 0;
-    }
-    least(least(width, 8), bytes.len() - at)
-}
-
-// The number that `width` bytes from a place on write.
+// The number that `width` bytes from a place on write; a u64 has room for eight.
 pub fn number_at(bytes: &[u8], at: usize, width: usize) -> u64
     ensures value { result ≡ number (part at (min width 8) bytes.now) }
     ensures bound { result < 256 ^ min width 8 }
 {
-    let count = there(bytes, at, width);
+    let rest = &bytes[at.min(bytes.len())..];
     let mut n: u64 = 0;
-    let mut i: usize = 0;
-    while i < count {
-        n = n * 256 + wide(bytes[at + i]);
-        i += 1;
+    for b in &rest[..width.min(8).min(rest.len())] {
+        n = n * 256 + u64::from(*b);
     }
     n
 }
@@ -53,16 +35,8 @@ pub fn number_at(bytes: &[u8], at: usize, width: usize) -> u64
 pub fn put_at(buffer: &mut [u8], at: usize, bytes: &[u8])
     ensures { buffer.new ≡ put_in buffer.old at bytes.now }
 {
-    if buffer.len() < at {
-        return;
-    }
-    if buffer.len() - at < bytes.len() {
-        return;
-    }
-    let mut i: usize = 0;
-    while i < bytes.len() {
-        buffer[at + i] = bytes[i];
-        i += 1;
+    if at <= buffer.len() && bytes.len() <= buffer.len() - at {
+        buffer[at..at + bytes.len()].copy_from_slice(bytes);
     }
 }
 
@@ -73,14 +47,9 @@ pub const ADDRESS_BOUND: u64 = 0x1_0000_0000_0000;
 const GROUP_PLACE: u32 = 40;
 
 // Whether an address can be a source: six bytes, neither zero nor group.
+#[tactic(auto, unfolding(crate::specs::Address::is_source))]
 pub fn is_source(address: u64) -> bool
     ensures { result ≡ is_source address }
 {
-    if address == 0 {
-        return false;
-    }
-    if ADDRESS_BOUND <= address {
-        return false;
-    }
-    (address >> GROUP_PLACE) % 2 == 0
+    address != 0 && address < ADDRESS_BOUND && (address >> GROUP_PLACE) % 2 == 0
 }

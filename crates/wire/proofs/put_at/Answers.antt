@@ -1,18 +1,16 @@
-use Rattle.wire.proofs.Loops.{putting_starts, putting_next, putting_ends, put_not}
-use native.Mathlib.Omega.{arith}
+use Rattle.std.proofs.Common.{◌≡◌, ◌+◌, ◌-◌, length, arith, sym, drop-drop, append_assoc}
+use Rattle.wire.proofs.Laws.{put_fits, put_not}
 use Rattle.wire.proofs.put_at.Goals as goal
+use Rattle.wire.proofs.put_at.Goals.{else-at-buffer-via-then-at-buffer+else-bytes-buffer, else-at-buffer-via-else-at-buffer}
 
-pub returns-then-buffer-at : goal.returns-then-buffer-at
-returns-then-buffer-at c = put_not _ _ _ (omega arith)
+pub returns-then-bytes-buffer : goal.returns-then-bytes-buffer
+returns-then-bytes-buffer c =
+    let all : c.args.at + length c.args.bytes.now - c.args.at ≡ length c.args.bytes.now = omega arith in
+    rw (all, c.copy_from_slice.ensures.after, drop-drop, ← append_assoc) (sym (put_fits c.args.buffer.now c.args.at c.args.bytes.now (omega arith)))
 
-pub returns-then-buffer-at-2 : goal.returns-then-buffer-at-2
-returns-then-buffer-at-2 c = put_not _ _ _ (omega arith)
-
-pub loop-i-init : goal.loop-i-init
-loop-i-init c = (omega arith, putting_starts _ _ _)
-
-pub loop-i-preserved : goal.loop-i-preserved
-loop-i-preserved c = (omega arith, putting_next c.loop-i.invariant.1 c.loop-i.invariant.0 (omega arith))
-
-pub returns : goal.returns
-returns c = putting_ends c.loop-i.invariant.1 c.loop-i.invariant.0 (omega arith)
+pub returns-else-at-buffer : goal.returns-else-at-buffer
+returns-else-at-buffer c =
+    elim c.else-at-buffer.branch [
+      | else-at-buffer-via-then-at-buffer+else-bytes-buffer w ↦ put_not _ _ _ (omega arith)
+      | else-at-buffer-via-else-at-buffer w ↦ put_not _ _ _ (omega arith)
+    ]
