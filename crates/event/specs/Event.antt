@@ -1,14 +1,16 @@
 -- The events of a bench and their records (document 01, "The bench"): length first, a kind byte 4 to 6, then the body, as in a description.
--- `address_of`, `letter_of`, `size_of`, `read_event`, `encode_event` and `told_answer` are the interface; the others serve them.
-use Rattle.std.specs.Prelude.{ℕ, ◌+◌, Bool, cond, not, ◌||◌, List, [], ◌∷◌, ◌++◌, length, get_or, eqb, ltb}
+-- `address_of`, `letter_of`, `size_of`, `read_event`, `encode_event` and `event_values` are the interface; the others serve them.
+use Rattle.std.specs.Prelude.{ℕ, ◌+◌, Bool, cond, not, ◌||◌, List, [], ◌∷◌, ◌++◌, length, get_or, eqb, ltb, Result, Ok, Err}
 use Rattle.refusal.specs.Refusal.{Told, answered}
+use Rattle.refusal.specs.declared.Refusal.{Refusal}
+use Rattle.refusal.specs.declared.Refusal.TheVariants.{BadRecord}
 use Rattle.wire.specs.Wire.{number, bytes_of, part}
 use Rattle.network.specs.Format.{length_in, kind_in, body_in, headless}
 use Rattle.event.specs.declared.Address.{Address}
 use Rattle.event.specs.declared.Event.{Event}
 use Rattle.event.specs.declared.Event.TheVariants.{Present, Take, Link}
-use Rattle.event.specs.declared.Answer.{Answer}
-use Rattle.event.specs.declared.Answer.TheVariants.{Refused, Got}
+use Rattle.event.specs.declared.Kind.{Kind}
+use Rattle.event.specs.declared.Kind.TheVariants.{Present as PresentKind, Take as TakeKind, Link as LinkKind}
 
 -- an address's six bytes
 abbrev pub address_bytes : Address → List ℕ
@@ -24,7 +26,13 @@ kind_of (Present p) = 4
 kind_of (Take place) = 5
 kind_of (Link s) = 6
 
--- its letter, as the byte that is printed: I, T or K
+-- a kind's byte
+abbrev pub byte_of : Kind → ℕ
+byte_of PresentKind = 4
+byte_of TakeKind = 5
+byte_of LinkKind = 6
+
+-- an event's letter, as the byte that is printed: I, T or K
 unfoldable pub letter_of : Event → ℕ
 letter_of (Present p) = 0x49
 letter_of (Take place) = 0x54
@@ -80,19 +88,14 @@ unfoldable pub event_fault : List ℕ → ℕ
 event_fault b = cond (bad_event b) 20 0
 
 -- the event that bytes start with, or its refusal
-unfoldable pub read_event : List ℕ → Answer
-read_event b = cond (bad_event b) (Refused 20) (Got (event_in b))
+unfoldable pub read_event : List ℕ → Result Event Refusal
+read_event b = cond (bad_event b) (Err BadRecord) (Ok (event_in b))
 
 -- an event's values: its kind, and then host and destination, place, or link and state
 unfoldable pub event_values : Event → List ℕ
 event_values (Present p) = 4 ∷ p.host ∷ address_bytes p.to
 event_values (Take place) = 5 ∷ place ∷ []
 event_values (Link s) = 6 ∷ s.link ∷ s.state ∷ []
-
--- number and values of each case of an answer
-unfoldable pub told_answer : Answer → Told
-told_answer (Refused n) = record { number = n; values = [] }
-told_answer (Got e) = record { number = 0; values = event_values e }
 
 -- what reading the event that bytes start with answers
 abbrev pub read_answer : List ℕ → Told

@@ -5,9 +5,13 @@
 // here, as in a frame, so that none is without a meaning.
 #![tactic(auto)]
 
-ghost use Rattle.std.specs.Prelude.{◌≡◌, false, ◌+◌, ◌≤◌, ◌<◌, drop, length};
+ghost use Rattle.std.specs.Prelude.{◌≡◌, ◌+◌, ◌≤◌, ◌<◌, drop, length, IfOk, IfErr};
+ghost use Rattle.refusal.specs.Number.{refused_as, told};
 ghost use Rattle.wire.specs.Address.{address_bound};
-ghost use Rattle.event.specs.Event.{address_in, address_of, bad_event, event_in, event_length, letter_of, read_answer, size_of, told_answer};
+ghost use Rattle.network.specs.Format.{kind_in};
+ghost use Rattle.event.specs.Event.{address_in, address_of, byte_of, event_fault, event_length, event_of, event_values, letter_of, read_answer, size_of};
+
+use refusal::Refusal;
 
 // An address, as its bytes stand in a frame.
 #[derive(Clone, Copy)]
@@ -42,13 +46,6 @@ pub enum Event {
     Link(Setting),
 }
 
-// A refusal number, or the event.
-#[derive(Clone, Copy)]
-pub enum Answer {
-    Refused(u8),
-    Got(Event),
-}
-
 impl Address {
     // The number that the six bytes write.
     pub fn number(self) -> u64
@@ -60,11 +57,13 @@ impl Address {
     }
 }
 
-const PRESENT: u8 = 4;
-
-const TAKE: u8 = 5;
-
-const LINK: u8 = 6;
+// The kinds of events' records, by their byte.
+#[derive(Clone, Copy)]
+enum Kind {
+    Present = 4,
+    Take = 5,
+    Link = 6,
+}
 
 const PRESENT_LENGTH: u8 = 8;
 
@@ -86,86 +85,85 @@ const TAKE_LETTER: u8 = 0x54;
 
 const LINK_LETTER: u8 = 0x4B;
 
-// What the length of an event's record of a kind says, 0 for an unknown kind.
-fn length_of(kind: u8) -> u8
-    ensures { result ≡ event_length kind }
-{
-    if kind == PRESENT {
-        return PRESENT_LENGTH;
+impl Kind {
+    // The kind that a byte names, if it names one.
+    fn of(byte: u8) -> Result<Kind, Refusal>
+        ensures known { IfOk result (λ kind. byte_of kind ≡ byte) }
+        ensures unknown { IfErr result (λ r. (r ≡ Refusal.BadRecord) × (event_length byte ≡ 0)) }
+    {
+        match byte {
+            4 => Ok(Kind::Present),
+            5 => Ok(Kind::Take),
+            6 => Ok(Kind::Link),
+            _ => Err(Refusal::BadRecord),
+        }
     }
-    if kind == TAKE {
-        return TAKE_LENGTH;
+
+    // What the length of its records says.
+    fn length(self) -> u8
+        ensures { result ≡ event_length (byte_of self) }
+    {
+        match self {
+            Kind::Present => PRESENT_LENGTH,
+            Kind::Take => TAKE_LENGTH,
+            Kind::Link => LINK_LENGTH,
+        }
     }
-    if kind == LINK {
-        return LINK_LENGTH;
-    }
-    0
 }
 
-// The record from a place on is cut short, of wrong length or of unknown kind.
-fn is_bad(input: &[u8], at: usize) -> bool
-    ensures { result ≡ bad_event (drop at input.now) }
+// The kind of the record that bytes start with; it may be cut short, of wrong length or of unknown
+// kind.
+fn kind_of(bytes: &[u8]) -> Result<Kind, Refusal>
+    ensures number { refused_as result ≡ event_fault bytes.now }
+    ensures kind { IfOk result (λ kind. byte_of kind ≡ kind_in bytes.now) }
 {
-    if input.len() <= at {
-        return true;
-    }
-    if input.len() - at < 3 {
-        return true;
-    }
-    let long = wire::number_at(input, at, 2);
-    if long == 0 {
-        return true;
-    }
-    let kind = input[at + 2];
-    if long != wire::wide(length_of(kind)) {
-        return true;
-    }
-    ((input.len() - at) as u64) < long + 2
+    Refusal::BadRecord.when(bytes.len() < 3)?;
+    let kind = Kind::of(bytes[2])?;
+    let long = kind.length() as usize;
+    Refusal::BadRecord.when(wire::number_at(bytes, 0, 2) != long as u64)?;
+    Refusal::BadRecord.when(bytes.len() < long + 2)?;
+    Ok(kind)
 }
 
-fn address_at(input: &[u8], at: usize) -> Address
-    requires { at + 6 ≤ length input.now }
-    ensures { result ≡ address_in at input.now }
+fn address_at(bytes: &[u8], at: usize) -> Address
+    requires { at + 6 ≤ length bytes.now }
+    ensures { result ≡ address_in at bytes.now }
 {
     Address {
-        b0: input[at],
-        b1: input[at + 1],
-        b2: input[at + 2],
-        b3: input[at + 3],
-        b4: input[at + 4],
-        b5: input[at + 5],
+        b0: bytes[at],
+        b1: bytes[at + 1],
+        b2: bytes[at + 2],
+        b3: bytes[at + 3],
+        b4: bytes[at + 4],
+        b5: bytes[at + 5],
     }
 }
 
-// The event whose record starts at a place and is whole.
-fn event_at(input: &[u8], at: usize) -> Event
-    requires { bad_event (drop at input.now) ≡ false }
-    ensures { result ≡ event_in (drop at input.now) }
+// The event of a kind that a body starts with.
+fn event_of(kind: Kind, body: &[u8]) -> Event
+    requires { event_length (byte_of kind) ≤ length body.now + 1 }
+    ensures { result ≡ event_of (byte_of kind) body.now }
 {
-    let kind = input[at + 2];
-    if kind == PRESENT {
-        return Event::Present(Presented {
-            host: input[at + 3],
-            to: address_at(input, at + 4),
-        });
+    match kind {
+        Kind::Present => Event::Present(Presented {
+            host: body[0],
+            to: address_at(body, 1),
+        }),
+        Kind::Take => Event::Take(wire::number_at(body, 0, 2) as u16),
+        Kind::Link => Event::Link(Setting {
+            link: body[0],
+            state: body[1],
+        }),
     }
-    if kind == TAKE {
-        return Event::Take(wire::number_at(input, at + 3, 2) as u16);
-    }
-    Event::Link(Setting {
-        link: input[at + 3],
-        state: input[at + 4],
-    })
 }
 
 // The event whose record starts at a place of the input, if there is one.
-pub fn read_event(input: &[u8], at: usize) -> Answer
-    ensures { told_answer result ≡ read_answer (drop at input.now) }
+pub fn read_event(input: &[u8], at: usize) -> Result<Event, Refusal>
+    ensures { told event_values result ≡ read_answer (drop at input.now) }
 {
-    if is_bad(input, at) {
-        return Answer::Refused(20);
-    }
-    Answer::Got(event_at(input, at))
+    let bytes = &input[at.min(input.len())..];
+    let kind = kind_of(bytes)?;
+    Ok(event_of(kind, &bytes[3..]))
 }
 
 // The letter that an event is printed with.

@@ -1,22 +1,17 @@
 -- The reader and the writer. Both check a list of records by `records_fault`: the reader those that it finds, the writer those of its network.
--- `told`, `read_fault`, `read_end`, `read_network`, `image` and `write_fault` are the interface; `Scan`, `scan` and `scan_of` serve the reader.
-use Rattle.std.specs.Prelude.{ℕ, zero, suc, ◌+◌, Bool, true, false, cond, not, ◌||◌, List, [], ◌∷◌, ◌++◌, length, get_or, drop, eqb, ltb}
-use Rattle.refusal.specs.Refusal.{Cause, when, first, Told}
+-- `end_values`, `read_fault`, `read_end`, `read_network`, `image` and `write_fault` are the interface; `Scan`, `scan` and `scan_of` serve the reader.
+use Rattle.std.specs.Prelude.{ℕ, zero, suc, ◌+◌, Bool, true, false, cond, not, ◌||◌, List, [], ◌∷◌, ◌++◌, length, get_or, drop, eqb, ltb, Some, None, Ok, Err}
+use Rattle.refusal.specs.Refusal.{Cause, when, first}
 use Rattle.wire.specs.Wire.{put}
 use Rattle.network.specs.declared.Network.{Network}
 use Rattle.network.specs.declared.Record.{Record}
-use Rattle.network.specs.declared.Start.{Start}
-use Rattle.network.specs.declared.Start.TheVariants.{End, Bad, Got}
-use Rattle.network.specs.declared.Answer.{Answer}
-use Rattle.network.specs.declared.Answer.TheVariants.{Refused, Ends}
 use Rattle.network.specs.Network.{empty_network, built, records}
-use Rattle.network.specs.Format.{encode, start_of}
+use Rattle.network.specs.Format.{Start, encode, start_of}
 use Rattle.network.specs.Checks.{checked, records_fault, network_fault}
 
--- an answer's refusal number and values: a refusal has its number alone, else the value is where the description ends
-unfoldable pub told : Answer → Told
-told (Refused number) = record { number = number; values = [] }
-told (Ends at) = record { number = 0; values = at ∷ [] }
+-- an answer's value: where the description ends
+abbrev pub end_values : ℕ → List ℕ
+end_values at = at ∷ []
 
 -- the version byte at the front
 abbrev pub version : ℕ
@@ -30,9 +25,9 @@ pub record Scan : Type 0 where
 
 -- what one start makes of what stands behind it
 abbrev pub scanned : Start → ℕ → (Record → Scan) → Scan
-scanned End at behind = record { found = []; end = at; whole = true }
-scanned Bad at behind = record { found = []; end = at; whole = false }
-scanned (Got r) at behind = record { found = r ∷ (behind r).found; end = (behind r).end; whole = (behind r).whole }
+scanned (Ok None) at behind = record { found = []; end = at; whole = true }
+scanned (Err r) at behind = record { found = []; end = at; whole = false }
+scanned (Ok (Some r)) at behind = record { found = r ∷ (behind r).found; end = (behind r).end; whole = (behind r).whole }
 
 -- the bytes b, which stand at a place, record by record. Each record takes some bytes, so one turn more than there are bytes is enough
 unfoldable pub scan : ℕ → ℕ → List ℕ → Scan
@@ -64,7 +59,7 @@ read_fault b = first (read_causes b)
 unfoldable pub read_end : List ℕ → ℕ
 read_end b = (scan_of b).end
 
--- the network that stands beside the answer: the empty one beside a refusal
+-- the network that is read: the empty one where the input is refused
 unfoldable pub read_network : List ℕ → Network
 read_network b = cond (eqb (read_fault b) 0) (built empty_network (scan_of b).found) empty_network
 

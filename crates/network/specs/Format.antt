@@ -1,18 +1,26 @@
 -- One record and its bytes: length first (16 bits, counting what follows), a kind byte, then the body.
 -- `encode` and `start_of` are the interface; they undo each other (RoundTrip).
-use Rattle.std.specs.Prelude.{ℕ, ◌+◌, Bool, cond, not, ◌&&◌, ◌||◌, List, [], ◌∷◌, ◌++◌, length, get_or, drop, eqb, ltb, leb}
+use Rattle.std.specs.Prelude.{ℕ, ◌+◌, Bool, cond, not, ◌&&◌, ◌||◌, List, [], ◌∷◌, ◌++◌, length, get_or, drop, eqb, ltb, leb, Option, Some, None, Result, Ok, Err}
+use Rattle.refusal.specs.declared.Refusal.{Refusal}
+use Rattle.refusal.specs.declared.Refusal.TheVariants.{BadRecord}
 use Rattle.wire.specs.Wire.{number, bytes_of, part}
 use Rattle.network.specs.declared.Port.{Port}
 use Rattle.network.specs.declared.Record.{Record}
 use Rattle.network.specs.declared.Record.TheVariants.{Switch as OfSwitch, Host as OfHost, Link as OfLink}
-use Rattle.network.specs.declared.Start.{Start}
-use Rattle.network.specs.declared.Start.TheVariants.{End, Bad, Got}
+use Rattle.network.specs.declared.format.Kind.{Kind}
+use Rattle.network.specs.declared.format.Kind.TheVariants.{Switch as SwitchKind, Host as HostKind, Link as LinkKind}
 
 -- the kind of a record
 unfoldable pub kind_of : Record → ℕ
 kind_of (OfSwitch s) = 1
 kind_of (OfHost h) = 2
 kind_of (OfLink l) = 3
+
+-- a kind's byte
+abbrev pub byte_of : Kind → ℕ
+byte_of SwitchKind = 1
+byte_of HostKind = 2
+byte_of LinkKind = 3
 
 -- what the length of a record of a kind says; 0, which no record's length is, for an unknown kind
 unfoldable pub length_of : ℕ → ℕ
@@ -65,10 +73,13 @@ headless b = ltb (length b) 3 || eqb (length_in b) 0
 unfoldable pub misfit : List ℕ → Bool
 misfit b = not (eqb (length_in b) (length_of (kind_in b))) || ltb (length b) (length_in b + 2)
 
--- what bytes start with: the description's end, a record, or what is neither (20)
+-- what bytes start with: a record, none where the description ends, or what is neither (20)
+abbrev pub Start : Type 0
+Start = Result (Option Record) Refusal
+
 unfoldable pub start_of : List ℕ → Start
 start_of b =
-    cond (eqb (length b) 0) End
-    (cond (headless b) Bad
-    (cond (is_event (kind_in b)) End
-    (cond (misfit b) Bad (Got (record_of (kind_in b) (body_in b))))))
+    cond (eqb (length b) 0) (Ok None)
+    (cond (headless b) (Err BadRecord)
+    (cond (is_event (kind_in b)) (Ok None)
+    (cond (misfit b) (Err BadRecord) (Ok (Some (record_of (kind_in b) (body_in b)))))))

@@ -1,13 +1,13 @@
 -- What the reader and the writer are to each other. Each statement is a type; proofs/Laws has its term, under the same name in lower case.
-use Rattle.std.specs.Prelude.{ℕ, ◌≤◌, ◌≡◌, List, ◌++◌, length, take}
+use Rattle.std.specs.Prelude.{ℕ, ◌≤◌, ◌≡◌, List, ◌++◌, length, take, None, Ok}
+use Rattle.refusal.specs.Number.{told}
 use Rattle.refusal.specs.OneOutcome.{TellsApart}
 use Rattle.wire.specs.Wire.{AreBytes}
 use Rattle.network.specs.declared.Network.{Network}
-use Rattle.network.specs.declared.Start.TheVariants.{End}
 use Rattle.network.specs.Network.{cleared}
 use Rattle.network.specs.Format.{start_of}
 use Rattle.network.specs.Checks.{network_fault}
-use Rattle.network.specs.Describe.{told, read_fault, read_end, read_network, image}
+use Rattle.network.specs.Describe.{end_values, read_fault, read_end, read_network, image}
 
 -- the reader accepts bytes as a network whose description ends at a place
 pub record ReadsAs (b : List ℕ) (n : Network) (end : ℕ) : Type 0 where
@@ -21,7 +21,7 @@ WrittenReadsBack = (n : Network) → network_fault n ≡ 0 → ReadsAs (image n)
 
 -- the same with events behind it, as long as the input isn't too long
 abbrev pub EventsBehind : Type 0
-EventsBehind = (n : Network) (events : List ℕ) → network_fault n ≡ 0 → start_of events ≡ End → length (image n ++ events) ≤ 60000 → ReadsAs (image n ++ events) (cleared n) (length (image n))
+EventsBehind = (n : Network) (events : List ℕ) → network_fault n ≡ 0 → start_of events ≡ Ok None → length (image n ++ events) ≤ 60000 → ReadsAs (image n ++ events) (cleared n) (length (image n))
 
 -- what the reader accepts the writer accepts, and writes back as the input's bytes up to where the description ended
 abbrev pub ReadWritesBack : Type 0
@@ -44,4 +44,4 @@ ReadsCleared = (b : List ℕ) → read_fault b ≡ 0 → cleared (read_network b
 
 -- two answers that tell the same are the same
 abbrev pub ToldApart : Type 0
-ToldApart = TellsApart told
+ToldApart = TellsApart (told end_values)

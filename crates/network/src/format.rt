@@ -1,16 +1,18 @@
-// One record and its bytes. A byte that isn't there reads as 0; whether a record is whole is asked
-// once, before it is read.
-ghost use Rattle.std.specs.Prelude.{◌≡◌, ◌+◌, ◌≤◌, drop, get_or, length};
+// One record and its bytes. Whether a record is whole is asked once, before it is read.
+ghost use Rattle.std.specs.Prelude.{◌≡◌, ◌+◌, ◌≤◌, drop, length, IfOk, IfErr};
 ghost use Rattle.wire.specs.Wire.{put};
-ghost use Rattle.network.specs.Format.{encode, headless, is_event, length_of, misfit, port_in, record_of, start_of};
+ghost use Rattle.network.specs.Format.{byte_of, encode, headless, is_event, length_of, port_in, record_of, start_of};
 
-use crate::{Host, Link, Port, Record, Start, Switch};
+use crate::{Host, Link, Port, Record, Switch};
+use refusal::Refusal;
 
-const SWITCH: u8 = 1;
-
-const HOST: u8 = 2;
-
-const LINK: u8 = 3;
+// The kinds of records, by their byte.
+#[derive(Clone, Copy)]
+enum Kind {
+    Switch = 1,
+    Host = 2,
+    Link = 3,
+}
 
 const SWITCH_LENGTH: u8 = 7;
 
@@ -30,117 +32,95 @@ const FIRST_EVENT: u8 = 4;
 
 const LAST_EVENT: u8 = 6;
 
-// What the length of a record of a kind says, 0 for an unknown kind.
-fn length_of(kind: u8) -> u8
-    ensures { result ≡ length_of kind }
-{
-    if kind == SWITCH {
-        return SWITCH_LENGTH;
+impl Kind {
+    // The kind that a byte names, if it names one.
+    fn of(byte: u8) -> Result<Kind, Refusal>
+        ensures known { IfOk result (λ kind. byte_of kind ≡ byte) }
+        ensures unknown { IfErr result (λ r. (r ≡ Refusal.BadRecord) × (length_of byte ≡ 0)) }
+    {
+        match byte {
+            1 => Ok(Kind::Switch),
+            2 => Ok(Kind::Host),
+            3 => Ok(Kind::Link),
+            _ => Err(Refusal::BadRecord),
+        }
     }
-    if kind == HOST {
-        return HOST_LENGTH;
+
+    // What the length of its records says.
+    fn length(self) -> u8
+        ensures { result ≡ length_of (byte_of self) }
+    {
+        match self {
+            Kind::Switch => SWITCH_LENGTH,
+            Kind::Host => HOST_LENGTH,
+            Kind::Link => LINK_LENGTH,
+        }
     }
-    if kind == LINK {
-        return LINK_LENGTH;
-    }
-    0
 }
 
 fn is_event(kind: u8) -> bool
     ensures { result ≡ is_event kind }
 {
-    if FIRST_EVENT <= kind {
-        return kind <= LAST_EVENT;
-    }
-    false
+    FIRST_EVENT <= kind && kind <= LAST_EVENT
 }
 
-fn byte_at(input: &[u8], at: usize) -> u8
-    ensures { result ≡ get_or input.now at 0 }
-{
-    if at < input.len() {
-        return input[at];
-    }
-    0
-}
-
-fn port_at(input: &[u8], at: usize) -> Port
-    requires { at ≤ length input.now }
-    ensures { result ≡ port_in at input.now }
+fn port_at(body: &[u8], at: usize) -> Port
+    requires { at + 2 ≤ length body.now }
+    ensures { result ≡ port_in at body.now }
 {
     Port {
-        switch: byte_at(input, at),
-        number: byte_at(input, at + 1),
+        switch: body[at],
+        number: body[at + 1],
     }
 }
 
-// The record of a kind whose body starts at a place.
-fn body_at(input: &[u8], at: usize, kind: u8) -> Record
-    requires { at + 4 ≤ length input.now }
-    ensures { result ≡ record_of kind (drop at input.now) }
+// The record of a kind that a body starts with.
+fn record_of(kind: Kind, body: &[u8]) -> Record
+    requires { 4 ≤ length body.now }
+    ensures { result ≡ record_of (byte_of kind) body.now }
 {
-    if kind == SWITCH {
-        return Record::Switch(Switch {
-            ports: byte_at(input, at),
-            limit: byte_at(input, at + 1),
-            salt: wire::number_at(input, at + 2, 4) as u32,
-        });
+    match kind {
+        Kind::Switch => Record::Switch(Switch {
+            ports: body[0],
+            limit: body[1],
+            salt: wire::number_at(body, 2, 4) as u32,
+        }),
+        Kind::Host => Record::Host(Host {
+            port: port_at(body, 0),
+            address: wire::number_at(body, 2, 6),
+        }),
+        Kind::Link => Record::Link(Link {
+            first: port_at(body, 0),
+            second: port_at(body, 2),
+        }),
     }
-    if kind == HOST {
-        return Record::Host(Host {
-            port: port_at(input, at),
-            address: wire::number_at(input, at + 2, 6),
-        });
-    }
-    Record::Link(Link {
-        first: port_at(input, at),
-        second: port_at(input, at + 2),
-    })
 }
 
-// The rest from a place on is cut short before a kind byte, or its length is 0.
-fn headless(input: &[u8], at: usize) -> bool
-    requires { at ≤ length input.now }
-    ensures { result ≡ headless (drop at input.now) }
+// The bytes are cut short before a kind byte, or their length is 0.
+fn is_headless(bytes: &[u8]) -> bool
+    ensures { result ≡ headless bytes.now }
 {
-    if input.len() - at < 3 {
-        return true;
-    }
-    wire::number_at(input, at, 2) == 0
+    bytes.len() < 3 || wire::number_at(bytes, 0, 2) == 0
 }
 
-// The record from a place on has a wrong length or an unknown kind, or is cut short.
-fn misfit(input: &[u8], at: usize) -> bool
-    requires { at + 3 ≤ length input.now }
-    ensures { result ≡ misfit (drop at input.now) }
-{
-    let long = wire::number_at(input, at, 2);
-    let kind = byte_at(input, at + 2);
-    if long != wire::wide(length_of(kind)) {
-        return true;
-    }
-    ((input.len() - at) as u64) < long + 2
-}
-
-// What the input starts with from a place on.
-pub(crate) fn start_at(input: &[u8], at: usize) -> Start
+// What the input starts with from a place on: a record, or the description's end.
+pub(crate) fn start_at(input: &[u8], at: usize) -> Result<Option<Record>, Refusal>
     requires { at ≤ length input.now }
     ensures { result ≡ start_of (drop at input.now) }
 {
-    if input.len() - at == 0 {
-        return Start::End;
+    let bytes = &input[at..];
+    if bytes.is_empty() {
+        return Ok(None);
     }
-    if headless(input, at) {
-        return Start::Bad;
+    Refusal::BadRecord.when(is_headless(bytes))?;
+    if is_event(bytes[2]) {
+        return Ok(None);
     }
-    let kind = byte_at(input, at + 2);
-    if is_event(kind) {
-        return Start::End;
-    }
-    if misfit(input, at) {
-        return Start::Bad;
-    }
-    Start::Got(body_at(input, at + 3, kind))
+    let kind = Kind::of(bytes[2])?;
+    let long = kind.length() as usize;
+    let other = wire::number_at(bytes, 0, 2) != long as u64;
+    Refusal::BadRecord.when(other || bytes.len() < long + 2)?;
+    Ok(Some(record_of(kind, &bytes[3..])))
 }
 
 // How many bytes a record takes.
@@ -157,35 +137,16 @@ pub(crate) fn size(r: Record) -> usize
 fn switch_bytes(s: Switch) -> [u8; SWITCH_SIZE]
     ensures { result ≡ encode (Record.Switch s) }
 {
-    [
-        0,
-        SWITCH_LENGTH,
-        SWITCH,
-        s.ports,
-        s.limit,
-        (s.salt / 0x100_0000 % 0x100) as u8,
-        (s.salt / 0x1_0000 % 0x100) as u8,
-        (s.salt / 0x100 % 0x100) as u8,
-        (s.salt / 1 % 0x100) as u8,
-    ]
+    let [a, b, c, d] = s.salt.to_be_bytes();
+    [0, SWITCH_LENGTH, Kind::Switch as u8, s.ports, s.limit, a, b, c, d]
 }
 
 fn host_bytes(h: Host) -> [u8; HOST_SIZE]
     ensures { result ≡ encode (Record.Host h) }
 {
-    [
-        0,
-        HOST_LENGTH,
-        HOST,
-        h.port.switch,
-        h.port.number,
-        (h.address / 0x100_0000_0000 % 0x100) as u8,
-        (h.address / 0x1_0000_0000 % 0x100) as u8,
-        (h.address / 0x100_0000 % 0x100) as u8,
-        (h.address / 0x1_0000 % 0x100) as u8,
-        (h.address / 0x100 % 0x100) as u8,
-        (h.address / 1 % 0x100) as u8,
-    ]
+    let [_, _, a, b, c, d, e, f] = h.address.to_be_bytes();
+    let p = h.port;
+    [0, HOST_LENGTH, Kind::Host as u8, p.switch, p.number, a, b, c, d, e, f]
 }
 
 fn link_bytes(l: Link) -> [u8; LINK_SIZE]
@@ -194,7 +155,7 @@ fn link_bytes(l: Link) -> [u8; LINK_SIZE]
     [
         0,
         LINK_LENGTH,
-        LINK,
+        Kind::Link as u8,
         l.first.switch,
         l.first.number,
         l.second.switch,
@@ -208,17 +169,8 @@ pub(crate) fn put_record(out: &mut [u8], at: usize, r: Record)
     ensures { out.new ≡ put out.old at (encode r) }
 {
     match r {
-        Record::Switch(s) => {
-            let bytes = switch_bytes(s);
-            wire::put_at(out, at, &bytes);
-        }
-        Record::Host(h) => {
-            let bytes = host_bytes(h);
-            wire::put_at(out, at, &bytes);
-        }
-        Record::Link(l) => {
-            let bytes = link_bytes(l);
-            wire::put_at(out, at, &bytes);
-        }
+        Record::Switch(s) => wire::put_at(out, at, &switch_bytes(s)),
+        Record::Host(h) => wire::put_at(out, at, &host_bytes(h)),
+        Record::Link(l) => wire::put_at(out, at, &link_bytes(l)),
     }
 }

@@ -10,11 +10,14 @@
 // network has more records than there may be, and is refused for that.
 #![tactic(auto)]
 
-ghost use Rattle.std.specs.Prelude.{◌≡◌, ◌∷◌, [], length};
+ghost use Rattle.std.specs.Prelude.{◌≡◌, ◌∷◌, [], length, IfOk};
 ghost use Rattle.refusal.specs.Refusal.{answered};
+ghost use Rattle.refusal.specs.Number.{refused_as, told};
 ghost use Rattle.network.specs.Network.{empty_network, limit_of};
 ghost use Rattle.network.specs.Checks.{network_fault};
-ghost use Rattle.network.specs.Describe.{image, read_end, read_fault, read_network, told, versionless, write_fault, written};
+ghost use Rattle.network.specs.Describe.{end_values, image, read_end, read_fault, read_network, versionless, write_fault, written};
+
+use refusal::Refusal;
 
 mod checks;
 mod format;
@@ -47,6 +50,8 @@ pub struct Link {
     pub second: Port,
 }
 
+// Arrays with their counts beside them: memory is fixed, the C layout has both, and the theorems
+// speak of counts beyond the arrays.
 #[derive(Clone, Copy)]
 pub struct Network {
     pub switches: [Switch; Network::SWITCHES],
@@ -65,26 +70,19 @@ pub enum Record {
     Link(Link),
 }
 
-// What bytes start with: the description's end, a record, or what is neither.
+// What the reader reads: the network, and before which byte its description ends.
 #[derive(Clone, Copy)]
-pub enum Start {
-    End,
-    Bad,
-    Got(Record),
-}
-
-// A refusal number, or before which byte the description ends.
-#[derive(Clone, Copy)]
-pub enum Answer {
-    Refused(u8),
-    Ends(usize),
-}
-
-// What the reader answers, and the network; the empty one beside a refusal.
-#[derive(Clone, Copy)]
-pub struct Described {
-    pub answer: Answer,
+pub struct Description {
     pub network: Network,
+    pub end: usize,
+}
+
+impl Port {
+    // What stands at an unused place: all zeros.
+    pub const NONE: Port = Port {
+        switch: 0,
+        number: 0,
+    };
 }
 
 impl Switch {
@@ -93,6 +91,12 @@ impl Switch {
     pub const LIMIT: u8 = 62;
 
     pub const DEFAULT_LIMIT: u8 = 16;
+
+    pub const NONE: Switch = Switch {
+        ports: 0,
+        limit: 0,
+        salt: 0,
+    };
 
     // The hop limit that the switch steps with.
     pub fn hop_limit(self) -> u8
@@ -103,6 +107,20 @@ impl Switch {
         }
         self.limit
     }
+}
+
+impl Host {
+    pub const NONE: Host = Host {
+        port: Port::NONE,
+        address: 0,
+    };
+}
+
+impl Link {
+    pub const NONE: Link = Link {
+        first: Port::NONE,
+        second: Port::NONE,
+    };
 }
 
 impl Network {
@@ -120,123 +138,59 @@ impl Network {
     pub fn empty() -> Self
         ensures { result ≡ empty_network }
     {
-        let none = Port {
-            switch: 0,
-            number: 0,
-        };
-        let switch = Switch {
-            ports: 0,
-            limit: 0,
-            salt: 0,
-        };
-        let host = Host {
-            port: none,
-            address: 0,
-        };
-        let link = Link {
-            first: none,
-            second: none,
-        };
         Network {
-            switches: [switch; Network::SWITCHES],
-            hosts: [host; Network::HOSTS],
-            links: [link; Network::LINKS],
+            switches: [Switch::NONE; Network::SWITCHES],
+            hosts: [Host::NONE; Network::HOSTS],
+            links: [Link::NONE; Network::LINKS],
             nswitches: 0,
             nhosts: 0,
             nlinks: 0,
         }
     }
 
-    // The number that the writer would refuse the network with, room aside; 0 for none.
-    pub fn refusal(self) -> u8
-        ensures { result ≡ network_fault self }
+    // Why the writer would refuse the network, room aside, where it would.
+    pub fn check(&self) -> Result<(), Refusal>
+        ensures { refused_as result ≡ network_fault self.now }
     {
-        let count = records::count(self);
         let mut seen = Network::empty();
-        let mut i: usize = 0;
-        while i < count {
-            let r = records::record_at(self, i);
-            let fault = checks::fault(seen, r);
-            if fault != 0 {
-                return fault;
-            }
-            seen = checks::with(seen, r);
-            i += 1;
+        for i in 0..records::count(self) {
+            checks::take_in(&mut seen, records::record_at(self, i))?;
         }
-        0
-    }
-}
-
-fn refuse(number: u8) -> Described
-    ensures { (result.answer ≡ Answer.Refused number) × (result.network ≡ empty_network) }
-{
-    let network = Network::empty();
-    Described {
-        answer: Answer::Refused(number),
-        network: network,
+        Ok(())
     }
 }
 
 // The input is empty, or its first byte is not the version.
-fn versionless(input: &[u8]) -> bool
+fn is_versionless(input: &[u8]) -> bool
     ensures { result ≡ versionless input.now }
 {
-    if input.len() == 0 {
-        return true;
-    }
-    input[0] != Network::VERSION
+    input.is_empty() || input[0] != Network::VERSION
 }
 
 // The description that the input starts with: up to its end, or to the first event.
-pub fn read(input: &[u8]) -> Described
-    ensures answer { told result.answer ≡ answered (read_fault input.now) (read_end input.now ∷ []) }
-    ensures network { result.network ≡ read_network input.now }
+pub fn read(input: &[u8]) -> Result<Description, Refusal>
+    ensures answer { told (λ d. end_values d.end) result ≡ answered (read_fault input.now) (read_end input.now ∷ []) }
+    ensures network { IfOk result (λ d. d.network ≡ read_network input.now) }
 {
-    if Network::INPUT < input.len() {
-        return refuse(25);
+    Refusal::TooMany.when(Network::INPUT < input.len())?;
+    Refusal::NoVersion.when(is_versionless(input))?;
+    let mut network = Network::empty();
+    let mut end: usize = 1;
+    while let Some(r) = format::start_at(input, end)? {
+        checks::take_in(&mut network, r)?;
+        end += format::size(r);
     }
-    if versionless(input) {
-        return refuse(21);
-    }
-    let mut n = Network::empty();
-    let mut at: usize = 1;
-    loop {
-        let start = format::start_at(input, at);
-        match start {
-            Start::End => {
-                return Described {
-                    answer: Answer::Ends(at),
-                    network: n,
-                };
-            }
-            Start::Bad => {
-                return refuse(20);
-            }
-            Start::Got(r) => {
-                let fault = checks::fault(n, r);
-                if fault != 0 {
-                    return refuse(fault);
-                }
-                n = checks::with(n, r);
-                at += format::size(r);
-            }
-        }
-    }
+    Ok(Description { network, end })
 }
 
 // Writes the network's description at the output's start, and says how many bytes it takes.
-pub fn write(n: Network, out: &mut [u8]) -> Answer
-    ensures answer { told result ≡ answered (write_fault n (length out.old)) (length (image n) ∷ []) }
-    ensures output { out.new ≡ written n out.old }
+pub fn write(n: &Network, out: &mut [u8]) -> Result<usize, Refusal>
+    ensures answer { told end_values result ≡ answered (write_fault n.now (length out.old)) (length (image n.now) ∷ []) }
+    ensures output { out.new ≡ written n.now out.old }
 {
-    let fault = n.refusal();
-    if fault != 0 {
-        return Answer::Refused(fault);
-    }
+    n.check()?;
     let long = records::size(n);
-    if out.len() < long {
-        return Answer::Refused(27);
-    }
+    Refusal::NoRoomToWrite.when(out.len() < long)?;
     records::put_all(n, out);
-    Answer::Ends(long)
+    Ok(long)
 }

@@ -1,53 +1,32 @@
-// Switches, hosts and links by number. An array goes in whole: a caller that has it as a field
-// doesn't know its length, a function that takes it does.
+// Switches, hosts and links by number. A number may be behind an array's end, where all is zeros.
 ghost use Rattle.std.specs.Prelude.{◌≡◌, get_or};
 ghost use Rattle.network.specs.Network.{no_host, no_link, no_switch};
 
-use crate::{Host, Link, Network, Port, Switch};
+use crate::{Host, Link, Network, Switch};
 
-// Element i, all zeros behind the array's end.
-pub fn nth_switch(switches: [Switch; Network::SWITCHES], i: usize) -> Switch
-    ensures { result ≡ get_or switches i no_switch }
+// Element i, the unused one behind the end.
+pub fn nth<T: Copy>(array: &[T], i: usize, unused: T) -> T
+    ensures { result ≡ get_or array.now i unused }
 {
-    if i < Network::SWITCHES {
-        return switches[i];
-    }
-    Switch {
-        ports: 0,
-        limit: 0,
-        salt: 0,
-    }
+    if i < array.len() { array[i] } else { unused }
 }
 
-pub fn nth_host(hosts: [Host; Network::HOSTS], i: usize) -> Host
-    ensures { result ≡ get_or hosts i no_host }
-{
-    if i < Network::HOSTS {
-        return hosts[i];
+impl Network {
+    pub fn switch(&self, i: usize) -> Switch
+        ensures { result ≡ get_or self.now.switches i no_switch }
+    {
+        nth(&self.switches, i, Switch::NONE)
     }
-    Host {
-        port: Port {
-            switch: 0,
-            number: 0,
-        },
-        address: 0,
-    }
-}
 
-pub fn nth_link(links: [Link; Network::LINKS], i: usize) -> Link
-    ensures { result ≡ get_or links i no_link }
-{
-    if i < Network::LINKS {
-        return links[i];
+    pub fn host(&self, i: usize) -> Host
+        ensures { result ≡ get_or self.now.hosts i no_host }
+    {
+        nth(&self.hosts, i, Host::NONE)
     }
-    Link {
-        first: Port {
-            switch: 0,
-            number: 0,
-        },
-        second: Port {
-            switch: 0,
-            number: 0,
-        },
+
+    pub fn link(&self, i: usize) -> Link
+        ensures { result ≡ get_or self.now.links i no_link }
+    {
+        nth(&self.links, i, Link::NONE)
     }
 }
