@@ -1,10 +1,7 @@
-// The tokens of a line. A token is read behind the space at a place, and the answer says where it
-// ended: at the next space, or at the line's end. Where no such token stands that is NOWHERE, and
-// what is read from there on ends there too.
+// The tokens of a line, read from its front. What isn't there, or doesn't fit where it goes, is none, and such a line is
+// unreadable.
 
-ghost use Rattle.std.specs.Prelude.{◌≡◌, ◌≤◌, length};
-
-pub(crate) const NOWHERE: usize = usize::MAX;
+ghost use Rattle.std.specs.Prelude.{◌<◌, ◌≤◌, IfSome, length};
 
 // The longest frame, filter, output and input that a vector has.
 pub(crate) const FRAME: usize = 1_536;
@@ -17,255 +14,272 @@ pub(crate) const INPUT: usize = 60_100;
 
 const MOST_DIGITS: usize = 16;
 
+// What is left of a line.
 #[derive(Clone, Copy)]
-pub(crate) struct Value {
-    pub value: u64,
-    pub next: usize,
+pub(crate) struct Tokens<'a> {
+    rest: &'a [u8],
 }
 
-// How many bytes were read into a buffer.
-#[derive(Clone, Copy)]
-pub(crate) struct Length {
-    pub count: usize,
-    pub next: usize,
+// What is read as one token or as several.
+pub(crate) trait Token: Sized {
+    fn read(line: &mut Tokens<'_>) -> Option<Self>;
 }
 
-// Byte i of an output is fill + i before the call.
-#[derive(Clone, Copy)]
-pub(crate) struct Buffer {
-    pub length: usize,
-    pub fill: u8,
-    pub next: usize,
-}
-
-// The byte at a place, 0 behind the end.
-pub(crate) fn byte_at(line: &[u8], at: usize) -> u8 {
-    if at < line.len() {
-        return line[at];
-    }
-    0
-}
-
-// The first bytes, at most as many as there are.
-pub(crate) fn first(bytes: &[u8], count: usize) -> &[u8] {
-    if count <= bytes.len() {
-        return &bytes[0..count];
-    }
-    bytes
-}
-
-pub(crate) fn starts_with(line: &[u8], word: &[u8]) -> bool {
-    let mut i: usize = 0;
-    while i < word.len() {
-        if byte_at(line, i) != word[i] {
-            return false;
-        }
-        i += 1;
-    }
-    true
-}
-
-// Where the token behind a byte starts.
-fn behind(line: &[u8], at: usize, b: u8) -> usize {
-    if at < line.len() {
-        if line[at] == b {
-            return at + 1;
-        }
-    }
-    NOWHERE
-}
-
-// A hex digit's number, 16 for what is none.
-fn digit(b: u8) -> u8
-    ensures { result ≤ 16 }
+// A hex digit's number.
+fn digit(b: u8) -> Option<u8>
+    ensures { IfSome result (λ d. d < 16) }
 {
-    if b < b'0' {
-        return 16;
+    match b {
+        b'0'..=b'9' => Some(b - b'0'),
+        b'a'..=b'f' => Some(b - b'a' + 10),
+        _ => None,
     }
-    if b <= b'9' {
-        return b - b'0';
-    }
-    if b < b'a' {
-        return 16;
-    }
-    if b <= b'f' {
-        return b - b'a' + 10;
-    }
-    16
 }
 
-fn no_value() -> Value
-    ensures { result.value ≡ 0 }
+// How many hex digits stand in front.
+fn digits(bytes: &[u8]) -> usize
+    ensures { result ≤ length bytes.now }
 {
-    Value {
-        value: 0,
-        next: NOWHERE,
-    }
+    let end = bytes.iter().position(|b| digit(*b).is_none());
+    end.unwrap_or(bytes.len())
 }
 
-// A number that has so many digits.
-fn value_of(value: u64, digits: usize, next: usize) -> Value {
-    if digits == 0 {
-        return no_value();
-    }
-    if MOST_DIGITS < digits {
-        return no_value();
-    }
-    Value { value, next }
-}
-
-pub(crate) fn number(line: &[u8], at: usize) -> Value {
-    let from = behind(line, at, b' ');
+// The number that hex digits write, its lowest sixteen.
+fn value_of(digits: &[u8]) -> u64 {
     let mut value: u64 = 0;
-    let mut i = from;
-    while i < line.len() {
-        let d = digit(line[i]);
-        if d == 16 {
-            return value_of(value, i - from, i);
+    for b in digits {
+        value = value << 4 | digit(*b).unwrap_or(0) as u64;
+    }
+    value
+}
+
+impl<'a> Tokens<'a> {
+    pub(crate) fn new(rest: &'a [u8]) -> Tokens<'a> {
+        Tokens { rest }
+    }
+
+    // What all that is left of the line says.
+    pub(crate) fn whole<T: Token + Drop>(mut self) -> Option<T> {
+        let read = self.read()?;
+        if self.rest.is_empty() { Some(read) } else { None }
+    }
+
+    // A byte, not a token of its own.
+    fn byte(&mut self, b: u8) -> Option<()> {
+        let (first, rest) = self.rest.split_first()?;
+        if *first != b {
+            return None;
         }
-        value = value << 4 | d as u64;
-        i += 1;
+        self.rest = rest;
+        Some(())
     }
-    value_of(value, i - from, i)
-}
 
-pub(crate) fn at_most(line: &[u8], at: usize, most: u64) -> Value
-    ensures { result.value ≤ most }
-{
-    let v = number(line, at);
-    if v.value <= most {
-        return v;
-    }
-    no_value()
-}
-
-// This number and no other.
-pub(crate) fn exactly(line: &[u8], at: usize, n: u64) -> usize {
-    let v = number(line, at);
-    if v.value == n {
-        return v.next;
-    }
-    NOWHERE
-}
-
-pub(crate) fn letter(line: &[u8], at: usize, b: u8) -> usize {
-    behind(line, behind(line, at, b' '), b)
-}
-
-// The byte that two digits write. It ends where it starts if no digit stands there.
-fn pair(line: &[u8], at: usize) -> Value
-    ensures { result.value ≤ 255 }
-{
-    let high = digit(byte_at(line, at));
-    if high == 16 {
-        return Value { value: 0, next: at };
-    }
-    if line.len() < 2 {
-        return no_value();
-    }
-    if line.len() - 2 < at {
-        return no_value();
-    }
-    let low = digit(line[at + 1]);
-    if low == 16 {
-        return no_value();
-    }
-    Value {
-        value: high as u64 * 16 + low as u64,
-        next: at + 2,
-    }
-}
-
-fn no_bytes(next: usize) -> Length
-    ensures { result.count ≡ 0 }
-{
-    Length { count: 0, next }
-}
-
-// The bytes from a place on, into a buffer.
-fn pairs(line: &[u8], from: usize, buffer: &mut [u8]) -> Length
-    ensures { result.count ≤ length buffer.new }
-{
-    let mut i = from;
-    let mut count: usize = 0;
-    while i < line.len() {
-        let b = pair(line, i);
-        if b.next <= i {
-            return Length { count, next: i };
+    pub(crate) fn number(&mut self) -> Option<u64> {
+        self.byte(b' ')?;
+        let count = digits(self.rest);
+        if count < 1 || MOST_DIGITS < count {
+            return None;
         }
-        if buffer.len() <= count {
-            return no_bytes(NOWHERE);
+        let (digits, rest) = self.rest.split_at(count);
+        self.rest = rest;
+        Some(value_of(digits))
+    }
+
+    pub(crate) fn read<T: Token>(&mut self) -> Option<T> {
+        T::read(self)
+    }
+
+    // A number of at most so much.
+    pub(crate) fn at_most(&mut self, most: usize) -> Option<usize>
+        ensures { IfSome result (λ n. n ≤ most) }
+    {
+        let n = self.number()?;
+        if n <= most as u64 { Some(n as usize) } else { None }
+    }
+
+    // An index of so many places.
+    pub(crate) fn index(&mut self, places: usize) -> Option<usize>
+        ensures { IfSome result (λ n. n < places) }
+    {
+        let n = self.number()?;
+        if n < places as u64 { Some(n as usize) } else { None }
+    }
+
+    // This number and no other.
+    pub(crate) fn exactly(&mut self, n: u64) -> Option<()> {
+        if self.number()? == n { Some(()) } else { None }
+    }
+
+    pub(crate) fn letter(&mut self, b: u8) -> Option<()> {
+        self.byte(b' ')?;
+        self.byte(b)
+    }
+
+    // Whether the next byte is a hex digit.
+    fn is_at_digit(&self) -> bool {
+        self.rest.first().is_some_and(|b| digit(*b).is_some())
+    }
+
+    // The byte that two digits write.
+    fn pair(&mut self) -> Option<u8> {
+        let [high, low, rest @ ..] = self.rest else {
+            return None;
+        };
+        let value = digit(*high)? * 16 + digit(*low)?;
+        self.rest = rest;
+        Some(value)
+    }
+
+    // Bytes, into a buffer that has room for them; how many.
+    pub(crate) fn bytes(&mut self, buffer: &mut [u8]) -> Option<usize>
+        ensures { IfSome result (λ n. n ≤ length buffer.new) }
+    {
+        self.byte(b' ')?;
+        if self.byte(b'-').is_some() {
+            return Some(0);
         }
-        buffer[count] = b.value as u8;
-        count += 1;
-        i = b.next;
+        let mut count = 0;
+        for b in &mut *buffer {
+            if !self.is_at_digit() {
+                break;
+            }
+            *b = self.pair()?;
+            count += 1;
+        }
+        if count == 0 || self.is_at_digit() {
+            return None;
+        }
+        Some(count)
     }
-    Length { count, next: i }
-}
 
-// Bytes, into a buffer that has room for them.
-pub(crate) fn bytes(line: &[u8], at: usize, buffer: &mut [u8]) -> Length
-    ensures { result.count ≤ length buffer.new }
-{
-    let from = behind(line, at, b' ');
-    let next = behind(line, from, b'-');
-    if next != NOWHERE {
-        return no_bytes(next);
+    // So many pieces of a buffer, each behind its offset.
+    pub(crate) fn pieces(&mut self, buffer: &mut [u8]) -> Option<()> {
+        for _ in 0..self.at_most(FILTER)? {
+            let from = self.at_most(buffer.len())?;
+            self.bytes(&mut buffer[from..])?;
+        }
+        Some(())
     }
-    let read = pairs(line, from, buffer);
-    if read.count == 0 {
-        return no_bytes(NOWHERE);
-    }
-    read
-}
 
-// Bytes, into the buffer from an offset on.
-fn piece(line: &[u8], at: usize, buffer: &mut [u8]) -> usize {
-    let offset = number(line, at);
-    let from = offset.value as usize;
-    if buffer.len() < from {
-        return NOWHERE;
-    }
-    let read = bytes(line, offset.next, &mut buffer[from..]);
-    read.next
-}
-
-// So many pieces of a buffer, each with its offset.
-pub(crate) fn pieces(line: &[u8], at: usize, buffer: &mut [u8]) -> usize {
-    let read = at_most(line, at, FILTER as u64);
-    let count = read.value;
-    let mut next = read.next;
-    let mut i: u64 = 0;
-    while i < count {
-        next = piece(line, next, buffer);
-        i += 1;
-    }
-    next
-}
-
-pub(crate) fn output(line: &[u8], at: usize) -> Buffer
-    ensures { result.length ≤ 2048 }
-{
-    let length = at_most(line, at, OUTPUT as u64);
-    let fill = at_most(line, length.next, 0xff);
-    Buffer {
-        length: length.value as usize,
-        fill: fill.value as u8,
-        next: fill.next,
+    // So many items of an array, each behind its index.
+    pub(crate) fn items<T: Token + Drop>(&mut self, items: &mut [T]) -> Option<()> {
+        for _ in 0..self.at_most(items.len())? {
+            let i = self.index(items.len())?;
+            items[i] = self.read()?;
+        }
+        Some(())
     }
 }
 
-// A whole input: bytes, and so many zeros behind them. The buffer comes with zeros.
-pub(crate) fn input(line: &[u8], at: usize, buffer: &mut [u8]) -> Length
-    ensures { result.count ≤ length buffer.new }
-{
-    let read = bytes(line, at, buffer);
-    let zeros = at_most(line, read.next, INPUT as u64);
-    if buffer.len() - read.count < zeros.value as usize {
-        return no_bytes(NOWHERE);
+// Bytes in a room of N.
+#[derive(Clone, Copy)]
+pub(crate) struct Bytes<const N: usize> {
+    room: [u8; N],
+    long: usize,
+    ghost fits: { long ≤ N },
+}
+
+impl<const N: usize> Bytes<N> {
+    pub(crate) fn all(&self) -> &[u8] {
+        &self.room[..self.long]
     }
-    Length {
-        count: read.count + zeros.value as usize,
-        next: zeros.next,
+
+    pub(crate) fn all_mut(&mut self) -> &mut [u8] {
+        &mut self.room[..self.long]
+    }
+}
+
+impl<const N: usize> Token for Bytes<N> {
+    fn read(line: &mut Tokens<'_>) -> Option<Bytes<N>> {
+        let mut room = [0; N];
+        let long = line.bytes(&mut room)?;
+        Some(Bytes { room, long })
+    }
+}
+
+// A whole input: bytes, and so many zeros behind them.
+#[derive(Clone, Copy)]
+pub(crate) struct Input(pub Bytes<INPUT>);
+
+impl Token for Input {
+    fn read(line: &mut Tokens<'_>) -> Option<Input> {
+        let mut room = [0; INPUT];
+        let count = line.bytes(&mut room)?;
+        let long = count + line.at_most(INPUT - count)?;
+        Some(Input(Bytes { room, long }))
+    }
+}
+
+// A filter: its length, and the pieces that aren't zeros.
+#[derive(Clone, Copy)]
+pub(crate) struct Filter(pub Bytes<FILTER>);
+
+impl Token for Filter {
+    fn read(line: &mut Tokens<'_>) -> Option<Filter> {
+        let mut room = [0; FILTER];
+        let long = line.at_most(FILTER)?;
+        line.pieces(&mut room[..long])?;
+        Some(Filter(Bytes { room, long }))
+    }
+}
+
+// An output before a call: its length, and its first byte; each is one more than the last.
+#[derive(Clone, Copy)]
+pub(crate) struct Output {
+    long: usize,
+    first: u8,
+    ghost fits: { long ≤ 2048 },
+}
+
+impl Token for Output {
+    fn read(line: &mut Tokens<'_>) -> Option<Output> {
+        let long = line.at_most(OUTPUT)?;
+        let first = line.read()?;
+        Some(Output { long, first })
+    }
+}
+
+impl Output {
+    pub(crate) fn bytes(self) -> Bytes<OUTPUT> {
+        let mut room = [0; OUTPUT];
+        for (i, b) in room.iter_mut().enumerate() {
+            *b = ((self.first as usize + i % 256) % 256) as u8;
+        }
+        Bytes {
+            room,
+            long: self.long,
+        }
+    }
+}
+
+impl Token for u64 {
+    fn read(line: &mut Tokens<'_>) -> Option<u64> {
+        line.number()
+    }
+}
+
+impl Token for u32 {
+    fn read(line: &mut Tokens<'_>) -> Option<u32> {
+        u32::try_from(line.number()?).ok()
+    }
+}
+
+impl Token for u16 {
+    fn read(line: &mut Tokens<'_>) -> Option<u16> {
+        u16::try_from(line.number()?).ok()
+    }
+}
+
+impl Token for u8 {
+    fn read(line: &mut Tokens<'_>) -> Option<u8> {
+        u8::try_from(line.number()?).ok()
+    }
+}
+
+// A flag is 0 or 1.
+impl Token for bool {
+    fn read(line: &mut Tokens<'_>) -> Option<bool> {
+        let n = line.at_most(1)?;
+        Some(n == 1)
     }
 }
