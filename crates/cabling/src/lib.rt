@@ -15,14 +15,14 @@ use rules::Setup;
 use rules::masks::only_port;
 
 // One end of a link.
-#[derive(Clone, Copy)]
+#[derive(Clone, Copy, PartialEq, Eq)]
 pub struct End {
     pub link: u8,
     pub second: bool,
 }
 
 // What a port has: no cable, a host's, or an end of a link.
-#[derive(Clone, Copy)]
+#[derive(Clone, Copy, PartialEq, Eq)]
 pub enum Plug {
     Open,
     Host(u8),

@@ -14,7 +14,7 @@ ghost use Rattle.event.specs.Event.{address_in, address_of, byte_of, event_fault
 use refusal::Refusal;
 
 // An address, as its bytes stand in a frame.
-#[derive(Clone, Copy)]
+#[derive(Clone, Copy, PartialEq, Eq)]
 pub struct Address {
     pub b0: u8,
     pub b1: u8,
@@ -25,21 +25,21 @@ pub struct Address {
 }
 
 // A frame that a host presents.
-#[derive(Clone, Copy)]
+#[derive(Clone, Copy, PartialEq, Eq)]
 pub struct Presented {
     pub host: u8,
     pub to: Address,
 }
 
 // What a link is set to: 0 is down, 1 is up.
-#[derive(Clone, Copy)]
+#[derive(Clone, Copy, PartialEq, Eq)]
 pub struct Setting {
     pub link: u8,
     pub state: u8,
 }
 
 // What happens on a bench: a host presents a frame, the copy at a place is taken, a link is set.
-#[derive(Clone, Copy)]
+#[derive(Clone, Copy, PartialEq, Eq)]
 pub enum Event {
     Present(Presented),
     Take(u16),

@@ -16,7 +16,7 @@ ghost use Rattle.filter.specs.Triple.{width, triple, is_cell, is_length, well_fo
 pub const CELL: usize = 10;
 
 // What recording found in the key's cell: the key itself, or another one that gave way to it.
-#[derive(Clone, Copy)]
+#[derive(Clone, Copy, PartialEq, Eq)]
 pub struct Recorded {
     pub duplicate: bool,
     pub overwrote: bool,

@@ -10,7 +10,7 @@ ghost use Rattle.flight.specs.Flight.{Cut, Joined, Ranged, TakenOut, Worded, cop
 use frame::Header;
 
 // A frame on its way over a link.
-#[derive(Clone, Copy)]
+#[derive(Clone, Copy, PartialEq, Eq)]
 pub struct Copy {
     pub link: u8,
     // Whether the link's second end receives it.

@@ -13,7 +13,7 @@ ghost use Rattle.frame.specs.Frame.{destination_of, source_of, type_of, tagged_t
 
 use refusal::{Refusal, is_outside};
 
-#[derive(Clone, Copy)]
+#[derive(Clone, Copy, PartialEq, Eq)]
 pub struct Header {
     pub l: bool,
     pub f: bool,
@@ -22,7 +22,7 @@ pub struct Header {
 }
 
 // The format's sizes and places.
-#[derive(Clone, Copy)]
+#[derive(Clone, Copy, PartialEq, Eq)]
 pub struct Frame {}
 
 impl Frame {
@@ -52,7 +52,7 @@ impl Frame {
 }
 
 // What stripping gives: the host frame's length, and the header.
-#[derive(Clone, Copy)]
+#[derive(Clone, Copy, PartialEq, Eq)]
 pub struct Host {
     pub len: usize,
     pub header: Header,

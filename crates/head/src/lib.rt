@@ -18,7 +18,7 @@ use rules::masks::has_port;
 use rules::{Report, Setup, Verdict, nonce_after, rule1, rules, sending_of};
 use table::Table;
 
-#[derive(Clone, Copy)]
+#[derive(Clone, Copy, PartialEq, Eq)]
 pub struct Switch {
     pub setup: Setup,
     pub nonce: u32,

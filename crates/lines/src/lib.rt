@@ -11,7 +11,7 @@ ghost use Rattle.lines.specs.Lines.{decimal, digits, ending, field, hex_of, line
 
 // One event's line: its number from 1 on, its letter, the refusal number or 0, the verdict's
 // letter, a bit for each host that received, and the copies in flight.
-#[derive(Clone, Copy)]
+#[derive(Clone, Copy, PartialEq, Eq)]
 pub struct Line {
     pub number: u32,
     pub letter: u8,

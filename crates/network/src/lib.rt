@@ -25,26 +25,26 @@ pub mod places;
 mod records;
 
 // A port of a switch: the switch's number, and the port's on it.
-#[derive(Clone, Copy)]
+#[derive(Clone, Copy, PartialEq, Eq)]
 pub struct Port {
     pub switch: u8,
     pub number: u8,
 }
 
-#[derive(Clone, Copy)]
+#[derive(Clone, Copy, PartialEq, Eq)]
 pub struct Switch {
     pub ports: u8,
     pub limit: u8,
     pub salt: u32,
 }
 
-#[derive(Clone, Copy)]
+#[derive(Clone, Copy, PartialEq, Eq)]
 pub struct Host {
     pub port: Port,
     pub address: u64,
 }
 
-#[derive(Clone, Copy)]
+#[derive(Clone, Copy, PartialEq, Eq)]
 pub struct Link {
     pub first: Port,
     pub second: Port,
@@ -52,7 +52,7 @@ pub struct Link {
 
 // Arrays with their counts beside them: memory is fixed, the C layout has both, and the theorems
 // speak of counts beyond the arrays.
-#[derive(Clone, Copy)]
+#[derive(Clone, Copy, PartialEq, Eq)]
 pub struct Network {
     pub switches: [Switch; Network::SWITCHES],
     pub hosts: [Host; Network::HOSTS],
@@ -63,7 +63,7 @@ pub struct Network {
 }
 
 // One record of a description.
-#[derive(Clone, Copy)]
+#[derive(Clone, Copy, PartialEq, Eq)]
 pub enum Record {
     Switch(Switch),
     Host(Host),
@@ -71,7 +71,7 @@ pub enum Record {
 }
 
 // What the reader reads: the network, and before which byte its description ends.
-#[derive(Clone, Copy)]
+#[derive(Clone, Copy, PartialEq, Eq)]
 pub struct Description {
     pub network: Network,
     pub end: usize,

@@ -17,7 +17,7 @@ use frame::{Frame, Header};
 use masks::{all_but, has_port, only_port};
 use table::{Entry, Table};
 
-#[derive(Clone, Copy)]
+#[derive(Clone, Copy, PartialEq, Eq)]
 pub struct Setup {
     pub ports: u8,
     // Bit p of a mask stands for port p.
@@ -28,7 +28,7 @@ pub struct Setup {
 }
 
 // A frame as rules 2 to 11 see it: with the header that rule 1 gave it.
-#[derive(Clone, Copy)]
+#[derive(Clone, Copy, PartialEq, Eq)]
 pub struct Arrival {
     pub port: u8,
     pub source: u64,
@@ -37,13 +37,13 @@ pub struct Arrival {
 }
 
 // Every copy of one step carries the same header.
-#[derive(Clone, Copy)]
+#[derive(Clone, Copy, PartialEq, Eq)]
 pub struct Send {
     pub mask: u16,
     pub header: Header,
 }
 
-#[derive(Clone, Copy)]
+#[derive(Clone, Copy, PartialEq, Eq)]
 pub enum Verdict {
     X,
     D,
@@ -57,13 +57,13 @@ pub enum Verdict {
 }
 
 // A verdict, and whether the record that came with it overwrote another triple.
-#[derive(Clone, Copy)]
+#[derive(Clone, Copy, PartialEq, Eq)]
 pub struct Outcome {
     pub verdict: Verdict,
     pub overwrote: bool,
 }
 
-#[derive(Clone, Copy)]
+#[derive(Clone, Copy, PartialEq, Eq)]
 pub struct Report {
     pub verdict: Verdict,
     pub full: bool,

@@ -14,7 +14,7 @@ use refusal::Refusal;
 use rules::{Arrival, Report, Setup, nonce_after, rules};
 use table::Table;
 
-#[derive(Clone, Copy)]
+#[derive(Clone, Copy, PartialEq, Eq)]
 pub struct Seat {
     pub switch: Switch,
     pub cells: [u8; Seat::CELLS],

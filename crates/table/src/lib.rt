@@ -8,14 +8,14 @@ ghost use Rattle.std.specs.Prelude.{false, ◌≡◌, ◌<◌};
 ghost use Rattle.table.specs.Table.{NoneOf, Passed, address_at, empty_table, erase_of, learn_of, learned_of, lookup_of, mark_of, marks, may_hold, put, slot_fits, slot_for, slot_of, slots, well_formed};
 
 // Slot i is place i of the three arrays, and an empty slot is zero in all three.
-#[derive(Clone, Copy)]
+#[derive(Clone, Copy, PartialEq, Eq)]
 pub struct Table {
     pub addresses: [u64; Table::SLOTS],
     pub ports: [u8; Table::SLOTS],
     pub hops: [u8; Table::SLOTS],
 }
 
-#[derive(Clone, Copy)]
+#[derive(Clone, Copy, PartialEq, Eq)]
 pub struct Entry {
     pub port: u8,
     pub hops: u8,

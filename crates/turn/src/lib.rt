@@ -26,7 +26,7 @@ use seat::{Seat, from_link};
 use sending::send_out;
 
 // What a step on the bench did: enough to count, to capture and to follow a frame by.
-#[derive(Clone, Copy)]
+#[derive(Clone, Copy, PartialEq, Eq)]
 pub struct Report {
     pub switch: u8,
     pub port: u8,
@@ -42,14 +42,14 @@ pub struct Report {
 }
 
 // A step's report, or how many copies were cut where a link was set.
-#[derive(Clone, Copy)]
+#[derive(Clone, Copy, PartialEq, Eq)]
 pub enum Done {
     Stepped(Report),
     Linked(u16),
 }
 
 // What a turn did, and how many copies are then in flight.
-#[derive(Clone, Copy)]
+#[derive(Clone, Copy, PartialEq, Eq)]
 pub struct Turned {
     pub done: Done,
     pub flying: usize,

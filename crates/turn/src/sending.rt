@@ -13,7 +13,7 @@ use rules::masks::has_port;
 use rules::{Arrival, Send, Verdict, sending_of};
 
 // How many copies are in flight, the hosts that received, and how many copies were placed and lost.
-#[derive(Clone, Copy)]
+#[derive(Clone, Copy, PartialEq, Eq)]
 pub struct Sent {
     pub flying: usize,
     pub received: u32,
