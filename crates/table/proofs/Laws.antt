@@ -8,7 +8,7 @@ use native.Mathlib.Decide.{ℕ_discrete}
 use native.Mathlib.Nat.{not-le_of_lt}
 use native.Mathlib.Omega.{arith}
 use lib.ListN.{length, get_or-replicate}
-use Rattle.std.specs.Prelude.{Option, Some, None}
+use Rattle.std.specs.Prelude.{Some, None}
 use Rattle.table.specs.declared.Table.{Table}
 use Rattle.table.specs.declared.Entry.{Entry}
 use Rattle.table.specs.Table.{Empty, Holds, MayHold, Sized, WellFormed, address_at, empty_table, entry_at, entry_of, erase_of, hops_at, learn_of, lookup_of, port_at, slot_for, slot_of, slots, well_formed}

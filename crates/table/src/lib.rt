@@ -29,6 +29,7 @@ impl Table {
     pub const MOST_HOPS: u8 = 62;
 
     // Every slot is all zeros.
+    #[tactic(auto, unfolding(crate::specs::Table::empty_table))]
     pub fn empty() -> Self
         ensures { result ≡ empty_table }
     {
@@ -40,6 +41,7 @@ impl Table {
     }
 
     // What was learned of an address. Zero finds nothing, though every empty slot has it.
+    #[tactic(auto, unfolding(crate::specs::Table::lookup_of, crate::specs::Table::found_at))]
     pub fn lookup(&self, address: u64) -> Option<Entry>
         ensures { result ≡ lookup_of self.now address }
     {
@@ -58,6 +60,7 @@ impl Table {
     }
 
     // An address stands behind a port, hc hops away. True where the table was full, so that nothing was learned.
+    #[tactic(auto, unfolding(crate::specs::Table::learn_of, crate::specs::Table::learn_at))]
     pub fn learn(&mut self, address: u64, port: u8, hc: u8) -> bool
         ensures { learned_of result self.new ≡ learn_of self.old address port hc }
     {
@@ -70,6 +73,7 @@ impl Table {
     }
 
     // The address is forgotten: its slot is zeroed, so that its room is used again.
+    #[tactic(auto, unfolding(crate::specs::Table::erase_of, crate::specs::Table::erase_at))]
     pub fn erase(&mut self, address: u64)
         ensures { self.new ≡ erase_of self.old address }
     {
@@ -96,6 +100,7 @@ impl Table {
     }
 
     // Slot `slot` is written.
+    #[tactic(auto, unfolding(crate::specs::Table::put))]
     fn put(&mut self, slot: usize, address: u64, port: u8, hc: u8)
         requires { slot < slots }
         ensures { self.new ≡ put self.old slot address port hc }
@@ -106,6 +111,7 @@ impl Table {
     }
 
     // Whether slot i is empty, or holds what it may in its address's first slot. A mark that is not set spares the search.
+    #[tactic(auto, unfolding(crate::specs::Table::slot_fits))]
     fn slot_fits(&self, n: u8, i: usize, marked: bool) -> bool
         requires { (i < slots) × (marked ≡ false → slot_of (address_at self.now i) self.now.addresses ≡ i) }
         ensures { result ≡ slot_fits n self.now i }
@@ -128,6 +134,7 @@ fn is_one_of(address: u64, a: u64, b: u64, c: u64, d: u64) -> bool
 }
 
 // Four slots at a time: from where on an address is to be searched for slot by slot. No slot before has it.
+#[tactic(auto, using(crate::proofs::Slots::none_passed, crate::proofs::Slots::slots_next))]
 fn passed(addresses: &[u64], address: u64) -> usize
     ensures { Passed address addresses.now result }
 {
@@ -146,6 +153,7 @@ fn passed(addresses: &[u64], address: u64) -> usize
 }
 
 // The first place of an address, or the length.
+#[tactic(auto, using(crate::proofs::Slots::slot_here, crate::proofs::Slots::slot_next, crate::proofs::Slots::slot_end))]
 pub fn slot_of(addresses: &[u64], address: u64) -> usize
     ensures { result ≡ slot_of address addresses.now }
 {
@@ -158,6 +166,7 @@ pub fn slot_of(addresses: &[u64], address: u64) -> usize
 }
 
 // Where an address is learned: its own slot, else the lowest empty one, else the length.
+#[tactic(auto, unfolding(crate::specs::Table::slot_for))]
 pub fn slot_for(addresses: &[u64], address: u64) -> usize
     ensures { result ≡ slot_for address addresses.now }
 {
@@ -169,6 +178,7 @@ pub fn slot_for(addresses: &[u64], address: u64) -> usize
 }
 
 // Whether a slot may hold this on a switch of n ports.
+#[tactic(auto, unfolding(crate::specs::Table::may_hold))]
 fn may_hold(n: u8, address: u64, port: u8, hc: u8) -> bool
     ensures { result ≡ may_hold n address port hc }
 {
@@ -179,6 +189,7 @@ fn may_hold(n: u8, address: u64, port: u8, hc: u8) -> bool
 const MARKS: usize = 1024;
 
 // Which mark an address has.
+#[tactic(auto, unfolding(crate::specs::Table::mark_of))]
 fn mark_of(address: u64) -> usize
     ensures mark { result ≡ mark_of address }
     ensures within { result < marks }
