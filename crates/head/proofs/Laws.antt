@@ -5,27 +5,28 @@ use mathlib.Core.Bool.{true, false}
 use mathlib.Core.List.{List}
 use Prim.Native.Nat.{ℕ, ◌≤◌}
 use native.Mathlib.Omega.{arith}
+use Rattle.std.specs.Prelude.{None, Some}
 use Rattle.refusal.specs.Refusal.{first}
+use Rattle.refusal.specs.Number.{told}
 use Rattle.refusal.specs.OneOutcome.{TellsApart}
 use Rattle.wire.specs.Wire.{AreBytes}
 use Rattle.wire.proofs.Laws.{source_iff}
-use Rattle.table.specs.declared.Found.TheVariants.{Absent}
 use Rattle.table.specs.Table.{Sized, lookup_of}
 use Rattle.frame.specs.declared.Header.{Header}
 use Rattle.frame.specs.Frame.{header_in, source_of}
 use Rattle.frame.specs.RoundTrip.{GivesBack}
 use Rattle.head.specs.Switch.{WellFormed, switch_causes}
 use Rattle.rules.specs.Rules.{hop_header, host_header, on_host_port, rule1, rules}
-use Rattle.head.specs.Step.{outgoing, refusal, refusal_but1, ruled, switch_after, told_answer}
-use Rattle.rules.specs.Verdict.{sending_of}
+use Rattle.head.specs.Step.{outgoing, refusal, refusal_but1, ruled, switch_after}
+use Rattle.rules.specs.Verdict.{report_values, sending_of}
 use Rattle.rules.proofs.Laws.{filter_formed, nonce_small, sent_fairly, table_formed}
 use Rattle.head.specs.declared.Switch.{Switch}
 use Rattle.rules.specs.declared.Arrival.{Arrival}
 use Rattle.rules.specs.declared.Send.{Send}
-use Rattle.rules.specs.declared.Sending.TheVariants.{Copies}
 use Rattle.head.proofs.Refusals.{passed_1, passed_port, passed_source}
 use Rattle.rules.specs.Words.{Arrives}
 use Rattle.rules.proofs.Ways.{by_test}
+use Rattle.refusal.proofs.Told as refusals
 use Rattle.head.proofs.LawsOfSwitch as switches
 use Rattle.head.proofs.LawsOfOutput as outputs
 use Rattle.head.proofs.LawsOfAnswer as answers
@@ -42,7 +43,7 @@ module _ (sw : Switch) (port : ℕ) (frame : List ℕ) where
   hop_header_lem e = rw e
 
   -- a host's frame whose source has no entry starts as a flood: L and F set, one hop
-  pub unknown_host_floods : on_host_port sw.setup port ≡ true → lookup_of sw.table (source_of frame) ≡ Absent
+  pub unknown_host_floods : on_host_port sw.setup port ≡ true → lookup_of sw.table (source_of frame) ≡ None
       → (rule1 sw.setup sw.nonce sw.table port frame).header ≡ record { l = true; f = true; hc = 1; nonce = sw.nonce }
   unknown_host_floods e absent = host_header_lem e ∙ rw absent
 
@@ -87,7 +88,7 @@ module _ {sw : Switch} {f : List ℕ} (formed : WellFormed sw f) where
     step_keeps = rules_keep (rule1 sw.setup sw.nonce sw.table port frame) (rule1_arrives sw port frame room none) port
 
     -- stripping accepts what a step sends, and gives the outgoing header and the host frame that came in
-    pub sent_strips : AreBytes frame → (c : Send) → sending_of (ruled sw f port frame).report.verdict ≡ Copies c
+    pub sent_strips : AreBytes frame → (c : Send) → sending_of (ruled sw f port frame).report.verdict ≡ Some c
         → GivesBack (outgoing (on_host_port sw.setup port) frame c.header) (outputs.host_frame (on_host_port sw.setup port) frame) c.header
     sent_strips bytes c e =
         let a : Arrival = rule1 sw.setup sw.nonce sw.table port frame in
@@ -98,6 +99,10 @@ module _ {sw : Switch} {f : List ℕ} (formed : WellFormed sw f) where
 
 -- ---- Answers
 
--- different answers tell different numbers or values
-pub told_apart : TellsApart told_answer
-told_apart = answers.answer_apart
+-- different reports have different values
+pub report_apart : TellsApart report_values
+report_apart = answers.report_apart
+
+-- and different answers tell different numbers or values
+pub told_apart : TellsApart (told report_values)
+told_apart = refusals.told_apart report_apart

@@ -1,17 +1,13 @@
 -- Letter, mask and header tell verdicts apart: each is read back from them.
-use mathlib.Core.Path.{◌≡◌, refl, sym, ap, ap₂, ◌∙◌}
+use mathlib.Core.Path.{◌≡◌, refl, sym, ap₂, ◌∙◌}
 use mathlib.Core.Bool.{cond}
 use Prim.Native.Nat.{ℕ}
 use lib.Dec.{eqb}
-use Rattle.refusal.specs.Refusal.{Told}
 use Rattle.frame.specs.Header.{header_values}
 use Rattle.frame.proofs.Told.{bit_apart, header_apart}
-use Rattle.head.specs.Step.{told_answer}
 use Rattle.rules.specs.Verdict.{letter_of, report_values, sending_of, sent_by, verdict_values}
 use Rattle.rules.specs.declared.Send.{Send}
 use Rattle.rules.specs.declared.Report.{Report}
-use Rattle.head.specs.declared.Answer.{Answer}
-use Rattle.head.specs.declared.Answer.TheVariants.{Refused, Done}
 use Rattle.rules.specs.declared.Verdict.{Verdict}
 use Rattle.rules.specs.declared.Verdict.TheVariants.{X, D, G, E, F, N, B, H, U}
 
@@ -48,16 +44,10 @@ verdict_apart v u e =
     let header : header_values (sent_by (sending_of v)).header ≡ header_values (sent_by (sending_of u)).header = cc in
     sym (read_back v) ∙ ap₂ verdict_of letter (send_apart (sent_by (sending_of v)) (sent_by (sending_of u)) mask header) ∙ read_back u
 
-report_apart : (r q : Report) → report_values r ≡ report_values q → r ≡ q
+pub report_apart : (r q : Report) → report_values r ≡ report_values q → r ≡ q
 report_apart r q e =
     let full : r.full ≡ q.full = bit_apart r.full q.full (cc) in
     let overwrote : r.overwrote ≡ q.overwrote = bit_apart r.overwrote q.overwrote (cc) in
     let values : verdict_values r.verdict ≡ verdict_values q.verdict = cc in
     let verdict : r.verdict ≡ q.verdict = verdict_apart r.verdict q.verdict values in
     λ i. record { verdict = verdict i; full = full i; overwrote = overwrote i }
-
-pub answer_apart : (a b : Answer) → told_answer a ≡ told_answer b → a ≡ b
-answer_apart (Refused n) (Refused m) e = ap (λ (t : Told). Refused t.number) e
-answer_apart (Refused n) (Done q) e = let v = ap (λ (t : Told). t.values) e in cc
-answer_apart (Done r) (Refused m) e = let v = ap (λ (t : Told). t.values) e in cc
-answer_apart (Done r) (Done q) e = ap Done (report_apart r q (ap (λ (t : Told). t.values) e))

@@ -1,4 +1,4 @@
--- Going through the rows of a step's refusals finds the first cause that holds.
+-- What a step knows that its refusals let pass.
 use mathlib.Core.Path.{◌≡◌, sym, ◌∙◌}
 use mathlib.Core.Bool.{Bool, true, false}
 use mathlib.Core.List.{List}
@@ -11,7 +11,7 @@ use lib.Pow.{pow_mono}
 use borrow.Author.Tests.{lt-leb, ltb-false, leb-false, not-false}
 use Rattle.refusal.specs.Refusal.{first}
 use Rattle.refusal.specs.Exact.{Numbered, NoneHolds}
-use Rattle.refusal.proofs.Laws.{in_turn, in_order, none_holds, inside, first_front, first_behind_none}
+use Rattle.refusal.proofs.Laws.{none_holds, inside, first_front, first_behind_none}
 use Rattle.wire.specs.Address.{is_source}
 use Rattle.frame.specs.Frame.{source_of}
 use Rattle.rules.specs.Mask.{names}
@@ -25,16 +25,9 @@ module _ (s : Switch) (f : List ℕ) where
   pub switch_numbered : Numbered (switch_causes s f)
   switch_numbered = omega arith
 
-  pub switch_in_turn : in_turn 0 (switch_causes s f) ≡ first (switch_causes s f)
-  switch_in_turn = in_order (switch_causes s f) switch_numbered
-
 module _ (s : Setup) (port : ℕ) (frame : List ℕ) (room : ℕ) where
   pub frame_numbered : Numbered (frame_causes s port frame room)
   frame_numbered = omega arith
-
-  pub frame_in_turn : in_turn 0 (frame_causes s port frame room) ≡ refusal_but1 s port frame room
-  unfolding refusal_but1
-  frame_in_turn = in_order (frame_causes s port frame room) frame_numbered
 
 -- a mask of sixteen bits names no port from 16 on
 pub beyond_none : (ports mask : ℕ) → mask < 2 ^ 16 → 16 ≤ ports → leb (2 ^ ports) mask ≡ false

@@ -7,13 +7,13 @@ use Prim.Native.Nat.{ℕ, ◌^◌, ◌<◌}
 use native.Mathlib.Omega.{arith}
 use lib.ListN.{length}
 use borrow.Author.Tests.{leb-false}
+use Rattle.std.specs.Prelude.{None, Some}
 use Rattle.refusal.specs.Refusal.{first}
 use Rattle.refusal.proofs.Laws.{inside, none_holds}
 use Rattle.wire.specs.Address.{Source}
 use Rattle.table.specs.Table as table
 use Rattle.table.specs.Table.{Sized, lookup_of}
 use Rattle.table.specs.declared.Table.{Table}
-use Rattle.table.specs.declared.Found.TheVariants.{Absent}
 use Rattle.table.proofs.Laws.{empty_well_formed}
 use Rattle.filter.specs.Triple as filter
 use Rattle.filter.proofs.Laws.{recorded_long, zeros_well_formed}
@@ -25,7 +25,6 @@ use Rattle.rules.specs.Words.{Arrives, Fair}
 use Rattle.rules.specs.declared.Setup.{Setup}
 use Rattle.rules.specs.declared.Arrival.{Arrival}
 use Rattle.rules.specs.declared.Send.{Send}
-use Rattle.rules.specs.declared.Sending.TheVariants.{Copies}
 use Rattle.rules.proofs.Laws.{mask_live, mask_within, sent_fairly, stays_sized}
 use Rattle.rules.proofs.Ways.{filter_keeps, way}
 use Rattle.head.specs.Step.{switch_of}
@@ -108,7 +107,7 @@ module _ (s : Seat) (port source destination : ℕ) where
   host_nonce formed = formed.nonce
 
   -- where the source has no entry it starts as a flood: L and F set, one hop
-  pub unknown_host_floods : lookup_of s.switch.table source ≡ Absent
+  pub unknown_host_floods : lookup_of s.switch.table source ≡ None
       → (from_host s port source destination).header ≡ record { l = true; f = true; hc = 1; nonce = s.switch.nonce }
   unfolding from_host
   unknown_host_floods absent = rw absent
@@ -160,13 +159,13 @@ module _ (s : Seat) (a : Arrival) where
   step_formed formed arrives = rules_keep formed a arrives a.port
 
   -- what is sent goes to live ports only and carries the arrival's hop count, within the limit, and its nonce
-  pub step_fair : (c : Send) → sending_of (step_of s a).report.verdict ≡ Copies c → Fair s.switch.setup a c
+  pub step_fair : (c : Send) → sending_of (step_of s a).report.verdict ≡ Some c → Fair s.switch.setup a c
   unfolding step_of
   step_fair = sent_fairly s.switch.setup s.switch.table s.cells a
 
   -- so a well-formed seat sends only what it may
   pub may_send : Formed s → Arrives s.switch.setup.ports a → a.header.nonce < 2 ^ 24
-      → (c : Send) → sending_of (step_of s a).report.verdict ≡ Copies c → MaySend s c
+      → (c : Send) → sending_of (step_of s a).report.verdict ≡ Some c → MaySend s c
   may_send formed arrives below c e =
       let fair = step_fair c e in
       let some = arrives.hops in
