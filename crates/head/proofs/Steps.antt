@@ -17,7 +17,7 @@ use Rattle.rules.specs.declared.Report.{Report}
 
 -- no refusal has the number 0
 some : (r : Refusal) → number_of r ≡ 0 → ⊥
-some r e = let none : Ok {A = Unit {0}} {E = Refusal} tt ≡ Err r = refused_apart r (Ok tt) (sym e) in cc
+some r e = let none = refused_apart {A = Unit {0}} r (Ok tt) (sym e) in cc
 
 module _ {n : ℕ} {s : Switch} {f : List ℕ} {port : ℕ} {frame out : List ℕ} where
   pub steps_refused : {r : Refusal} → number_of r ≡ n → Steps n s f port frame out (Err r) s f out
