@@ -9,6 +9,7 @@ use lib.Dec.{leb}
 use lib.ListN.{length}
 use lib.Pow.{pow_mono}
 use borrow.Author.Tests.{lt-leb, ltb-false, leb-false, not-false}
+use Rattle.std.specs.Prelude.{Err, Ok, OnOk, Result}
 use Rattle.refusal.specs.Refusal.{first}
 use Rattle.refusal.specs.Exact.{Numbered, NoneHolds}
 use Rattle.refusal.proofs.Laws.{none_holds, inside, first_front, first_behind_none}
@@ -61,7 +62,12 @@ module _ (s : Switch) (f : List ℕ) (port : ℕ) (frame : List ℕ) (room : ℕ
   unfolding refusal
   refused_1 {n} e some = sym (first_front n (switch_causes s f) (frame_causes s.setup port frame room) (sym e) some)
 
-  pub passed_1 : {n : ℕ} → n ≡ first (switch_causes s f) → n ≡ 0 → refusal_but1 s.setup port frame room ≡ refusal s f port frame room
+  pub passed_1 : 0 ≡ first (switch_causes s f) → refusal_but1 s.setup port frame room ≡ refusal s f port frame room
   unfolding refusal refusal_but1
-  passed_1 e none =
-      sym (first_behind_none (switch_causes s f) (frame_causes s.setup port frame room) (none_holds (switch_causes s f) (switch_numbered s f) (sym e ∙ none)))
+  passed_1 e =
+      sym (first_behind_none (switch_causes s f) (frame_causes s.setup port frame room) (none_holds (switch_causes s f) (switch_numbered s f) (sym e)))
+
+-- what holds anyway holds of an accepted call
+pub on_ok : {A E : Type 0} (r : Result A E) {P : Type 0} → P → OnOk r P
+on_ok (Ok a) p = p
+on_ok (Err e) p = tt

@@ -2,18 +2,21 @@
 use mathlib.Core.Path.{◌≡◌, refl, sym, ap, ◌∙◌}
 use mathlib.Core.List.{List}
 use Prim.Native.Nat.{ℕ}
+use lib.ListN.{length}
 use Rattle.std.specs.Prelude.{Result, Ok, Err}
 use Rattle.refusal.specs.Number.{number_of}
-use Rattle.refusal.specs.Refusal.{answered}
+use Rattle.refusal.specs.Refusal.{answered, first}
 use Rattle.refusal.specs.declared.Refusal.{Refusal}
 use Rattle.refusal.proofs.Laws.{refused_answer, refused_leaves, accepted_answer, accepted_leaves}
 use Rattle.refusal.proofs.Told.{refused_apart}
 use Rattle.table.specs.declared.Table.{Table}
 use Rattle.rules.specs.Rules.{Ruled, on_host_port, nonce_on, ruled_as}
 use Rattle.rules.specs.Verdict.{report_values, sending_of}
-use Rattle.head.specs.Step.{Steps, ruled, switch_after, switch_of, written}
+use Rattle.head.specs.Switch.{switch_causes}
+use Rattle.head.specs.Step.{Steps, refusal, ruled, switch_after, switch_of, written}
 use Rattle.head.specs.declared.Switch.{Switch}
 use Rattle.rules.specs.declared.Report.{Report}
+use Rattle.head.proofs.Refusals.{refused_1}
 
 -- no refusal has the number 0
 some : (r : Refusal) → number_of r ≡ 0 → ⊥
@@ -41,3 +44,8 @@ module _ {n : ℕ} {s : Switch} {f : List ℕ} {port : ℕ} {frame out : List �
         filter = ap (λ (r : Ruled). r.filter) done ∙ accepted_leaves e refl f _;
         output = wrote ∙ ap (λ (r : Ruled). written (on_host_port s.setup port) frame (sending_of r.report.verdict) out) done ∙ accepted_leaves e refl out _;
       }
+
+-- refused with 1
+pub steps_first : (s : Switch) (f : List ℕ) (port : ℕ) (frame out : List ℕ) {r : Refusal} → number_of r ≡ first (switch_causes s f)
+    → Steps (refusal s f port frame (length out)) s f port frame out (Err r) s f out
+steps_first s f port frame out {r} e = steps_refused (refused_1 s f port frame (length out) e (some r))

@@ -1,6 +1,6 @@
 // The refusals of a step, 1 to 9, one row for each cause in the document's order. No row needs
 // what a row before it found: each takes every input.
-ghost use Rattle.std.specs.Prelude.{◌≡◌, ◌^◌, leb, length};
+ghost use Rattle.std.specs.Prelude.{◌≡◌, ◌^◌, ◌<◌, OnOk, leb, length};
 ghost use Rattle.refusal.specs.Number.{refused_as};
 ghost use Rattle.refusal.specs.Refusal.{first};
 ghost use Rattle.head.specs.Switch.{switch_causes};
@@ -82,7 +82,8 @@ fn is_too_short(host: bool, frame: &[u8], room: usize) -> bool
 // Refusals 2 to 9.
 #[tactic(auto, unfolding(crate::specs::Step::refusal_but1))]
 pub fn check_frame(s: Setup, port: u8, frame: &[u8], room: usize) -> Result<(), Refusal>
-    ensures { refused_as result ≡ spec.refusal_but1 s port frame.now room }
+    ensures refused { refused_as result ≡ spec.refusal_but1 s port frame.now room }
+    ensures port { OnOk result (port < 16) }
 {
     let host = has_port(s.host, port);
     Refusal::NoSuchPort.when(s.ports <= port)?;

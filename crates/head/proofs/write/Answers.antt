@@ -7,4 +7,4 @@ pub returns-in-Some : goal.returns-in-Some
 returns-in-Some c =
     let a = c.args in
     let sent = sym c.sending_of.ensures ∙ c.in-Some.is in
-    rw sent (rw c.behind_tag.ensures at c.write_tagged.ensures ∙ goes_out a.host a.frame.now _ a.out.now c.requires)
+    rw (sent, c.write_tagged.ensures, c.behind_tag.ensures) (goes_out a.host a.frame.now _ a.out.now c.requires)

@@ -1,16 +1,12 @@
 -- The frame has the room that writing asks for, and the port is one of sixteen.
 use mathlib.Core.Path.{sym}
-use native.Mathlib.Omega.{arith}
 use Rattle.rules.specs.Rules.{rule1}
-use Rattle.rules.proofs.Bits.{names_below}
-use Rattle.head.proofs.Refusals.{passed_live, passed_room}
+use Rattle.head.proofs.Refusals.{passed_room}
 use Rattle.head.proofs.Switch.step_on.Goals as goal
 
 pub rules-report-requires : goal.rules-report-requires
 unfolding rule1
-rules-report-requires c =
-    let live = passed_live _ _ _ _ (sym c.in_ok-check_frame.ensures) in
-    rw c.rule1-a.ensures (names_below 16 c.args.self.now.setup.live c.args.port (omega arith) live)
+rules-report-requires c = rw c.rule1-a.ensures c.in_ok-check_frame.ensures.port
 
 pub write-requires : goal.write-requires
-write-requires c = rw c.has_port.ensures (passed_room _ _ _ _ (sym c.in_ok-check_frame.ensures))
+write-requires c = rw c.has_port.ensures (passed_room _ _ _ _ (sym c.in_ok-check_frame.ensures.refused))
