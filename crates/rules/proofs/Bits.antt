@@ -15,6 +15,9 @@ pub names_none : (n mask p : ℕ) → mask < 2 ^ n → n ≤ p → names mask p 
 unfolding names
 names_none n mask p h l = rw (div-eq_of_lt (lt_of_lt_of_le h (pow_mono l)))
 
+pub names_high : (mask p : ℕ) → mask < 65536 → 16 ≤ p → names mask p ≡ false
+names_high mask p h l = names_none 16 mask p h l
+
 pub names_below : (n mask p : ℕ) → mask < 2 ^ n → names mask p ≡ true → p < n
 names_below n mask p h e = by_order (dec_lt p n)
   where

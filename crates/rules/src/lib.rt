@@ -113,6 +113,7 @@ pub fn letter_of(v: Verdict) -> u8
 }
 
 // Rule 1 on a switch port: a hop count that was read has six bits, so it has room for one more.
+#[tactic(auto, using(frame::proofs::Laws::hc_small))]
 fn hop_header(frame: &[u8]) -> Header
     ensures { result ≡ spec.hop_header (header_in frame.now) }
 {
@@ -121,6 +122,7 @@ fn hop_header(frame: &[u8]) -> Header
 }
 
 // Rule 1.
+#[tactic(auto, unfolding(crate::specs::Rules::rule1))]
 pub fn rule1(s: Setup, nonce: u32, table: &Table, port: u8, frame: &[u8]) -> Arrival
     ensures { result ≡ spec.rule1 s nonce table.now port frame.now }
 {
@@ -144,6 +146,7 @@ pub fn rule1(s: Setup, nonce: u32, table: &Table, port: u8, frame: &[u8]) -> Arr
 }
 
 // The nonce advances on a host port, 2^24 - 1 to 0.
+#[tactic(auto, unfolding(crate::specs::Rules::nonce_on))]
 pub fn nonce_after(s: Setup, nonce: u32, port: u8) -> u32
     ensures { result ≡ spec.nonce_on s nonce port }
 {
@@ -164,6 +167,7 @@ fn plainly(verdict: Verdict) -> Outcome
 }
 
 // Rule 2, where the hop count is above the limit.
+#[tactic(auto, unfolding(crate::specs::Rules::rule2))]
 fn rule2(table: &mut Table, a: Arrival) -> Outcome
     ensures { (f : List ℕ) → spec.left table.new f result ≡ spec.rule2 table.old f a }
 {
@@ -184,6 +188,7 @@ fn noted(s: Setup, filter: &mut [u8], a: Arrival, h: Header) -> Recorded
 }
 
 // Rule 3: F set, the filter is asked and the triple recorded; F clear, neither.
+#[tactic(auto, unfolding(crate::specs::Rules::is_duplicate, crate::specs::Rules::overwrote3, crate::specs::Rules::rule3))]
 fn rule3(s: Setup, filter: &mut [u8], a: Arrival) -> Recorded
     ensures duplicate { result.duplicate ≡ spec.is_duplicate s filter.old a }
     ensures overwrote { result.overwrote ≡ spec.overwrote3 s filter.old a }
@@ -199,6 +204,7 @@ fn rule3(s: Setup, filter: &mut [u8], a: Arrival) -> Recorded
 }
 
 // Whether rule 5 erases.
+#[tactic(auto, unfolding(crate::specs::Rules::erases))]
 fn erases(a: Arrival, duplicate: bool, found: Option<Entry>) -> bool
     ensures { result ≡ spec.erases a duplicate found }
 {
@@ -206,12 +212,14 @@ fn erases(a: Arrival, duplicate: bool, found: Option<Entry>) -> bool
 }
 
 // Whether rule 6 learns.
+#[tactic(auto, unfolding(crate::specs::Rules::learns))]
 fn learns(a: Arrival, duplicate: bool, found: Option<Entry>) -> bool
     ensures { result ≡ spec.learns a duplicate found }
 {
     found.is_none_or(|e| a.header.hc < e.hops) || (a.header.l && !duplicate)
 }
 
+#[tactic(auto, unfolding(crate::specs::Rules::rule5))]
 fn rule5(table: &mut Table, a: Arrival, duplicate: bool, found: Option<Entry>)
     ensures { table.new ≡ spec.rule5 table.old a duplicate found }
 {
@@ -221,6 +229,7 @@ fn rule5(table: &mut Table, a: Arrival, duplicate: bool, found: Option<Entry>)
 }
 
 // Says whether the table was full.
+#[tactic(auto, unfolding(crate::specs::Rules::rule6))]
 fn rule6(table: &mut Table, a: Arrival, duplicate: bool, found: Option<Entry>) -> bool
     ensures { learned_of result table.new ≡ spec.rule6 table.old a duplicate found }
 {
@@ -228,6 +237,7 @@ fn rule6(table: &mut Table, a: Arrival, duplicate: bool, found: Option<Entry>) -
 }
 
 // Rules 4 to 6: the source's entry is read before rule 5 may erase it.
+#[tactic(auto, unfolding(crate::specs::Rules::learning))]
 fn learning(table: &mut Table, a: Arrival, duplicate: bool) -> bool
     ensures { learned_of result table.new ≡ spec.learning table.old a duplicate }
 {
@@ -237,6 +247,7 @@ fn learning(table: &mut Table, a: Arrival, duplicate: bool) -> bool
 }
 
 // The entry of an address whose port is up.
+#[tactic(auto, unfolding(crate::specs::Rules::standing))]
 fn standing(s: Setup, table: &Table, address: u64) -> Option<Entry>
     ensures entry { result ≡ spec.standing s table.now address }
     ensures port { spec.PortWithin result }
@@ -245,6 +256,7 @@ fn standing(s: Setup, table: &Table, address: u64) -> Option<Entry>
 }
 
 // Rule 9, where no entry for the destination stands. The first switch keeps L, and its flood leaves the arrival port out.
+#[tactic(auto, unfolding(crate::specs::Rules::rule9))]
 fn rule9(s: Setup, filter: &mut [u8], a: Arrival) -> Outcome
     requires { a.port < 16 }
     ensures { (t : Table) → spec.left t filter.new result ≡ spec.rule9 s t filter.old a }
@@ -278,6 +290,7 @@ fn rule9(s: Setup, filter: &mut [u8], a: Arrival) -> Outcome
 }
 
 // Rule 10, where the destination's entry names the arrival port.
+#[tactic(auto, unfolding(crate::specs::Rules::rule10))]
 fn rule10(table: &mut Table, a: Arrival) -> Outcome
     requires { a.port < 16 }
     ensures { (f : List ℕ) → spec.left table.new f result ≡ spec.rule10 table.old f a }
@@ -296,6 +309,7 @@ fn rule10(table: &mut Table, a: Arrival) -> Outcome
 }
 
 // Rules 9 to 11, by the destination's entry.
+#[tactic(auto, unfolding(crate::specs::Rules::onward, crate::specs::Rules::rule11))]
 fn onward(s: Setup, table: &mut Table, filter: &mut [u8], a: Arrival) -> Outcome
     requires { a.port < 16 }
     ensures { spec.left table.new filter.new result ≡ spec.onward s table.old filter.old a }
@@ -313,6 +327,7 @@ fn onward(s: Setup, table: &mut Table, filter: &mut [u8], a: Arrival) -> Outcome
 }
 
 // Rules 7 to 11.
+#[tactic(auto, unfolding(crate::specs::Rules::forwarding))]
 fn forwarding(
     s: Setup,
     table: &mut Table,
@@ -346,6 +361,7 @@ fn report_of(full: bool, overwrote: bool, o: Outcome) -> Report
 }
 
 // Rules 2 to 11.
+#[tactic(auto, unfolding(crate::specs::Rules::rules))]
 pub fn rules(s: Setup, table: &mut Table, filter: &mut [u8], a: Arrival) -> Report
     requires { a.port < 16 }
     ensures { spec.ruled_as table.new filter.new result ≡ spec.rules s table.old filter.old a }

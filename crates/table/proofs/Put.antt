@@ -1,12 +1,10 @@
 -- Looking up by the slot that is found, and what writing one slot does to a table.
 use mathlib.Core.Path.{◌≡◌, refl, sym, ◌∙◌}
-use mathlib.Core.Bool.{true, false}
 use mathlib.Core.Logic.{◌⊎◌, ◌≢◌, inl, inr, by_cases}
 use Prim.Native.Nat.{ℕ, ◌<◌, ◌≤◌}
 use native.Mathlib.Decide.{dec_lt, ℕ_discrete}
 use native.Mathlib.Omega.{arith}
 use lib.ListN.{length-set, get_or, set}
-use lib.Dec.{eqb}
 use lib.Seq.{get_or-set_same, get_or-set_other, set-get_or}
 use borrow.Author.Tests.{eq-eqb, ne_eqb, lt-ltb, le-ltb}
 use Rattle.std.specs.Prelude.{Some, None}
@@ -14,13 +12,6 @@ use Rattle.table.specs.declared.Table.{Table}
 use Rattle.table.specs.declared.Entry.{Entry}
 use Rattle.table.specs.Table.{Holds, Sized, address_at, entry_at, entry_of, found_at, hops_at, lookup_of, port_at, put, slot_of, slots}
 use Rattle.table.proofs.Slots.{slot_least, slot_set, slot_set_other, slot_stands}
-
--- the code asks whether an address is above zero
-pub above_zero : (x : ℕ) → 0 < x → eqb x 0 ≡ false
-above_zero x h = ne_eqb x 0 (λ e. omega arith)
-
-pub not_above_zero : (x : ℕ) → x ≤ 0 → eqb x 0 ≡ true
-not_above_zero x h = eq-eqb x 0 (omega arith)
 
 -- an entry is not absent
 pub found_apart : (e : Entry) → Some e ≢ None
