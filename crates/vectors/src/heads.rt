@@ -18,6 +18,7 @@ pub(crate) struct Step {
 }
 
 // The verdict's letter, and the mask and header of what is sent.
+#[derive(Clone, Copy)]
 pub(crate) struct Sent(pub Verdict);
 
 impl fmt::Display for Sent {

@@ -185,7 +185,10 @@ impl<const N: usize> Bytes<N> {
     }
 
     pub(crate) fn all_mut(&mut self) -> &mut [u8] {
-        &mut self.room[..self.long]
+        let long = self.long;
+        let room = &mut self.room;
+        let all = &mut room[..];
+        &mut all[..long]
     }
 }
 
