@@ -10,9 +10,7 @@ use borrow.Author.Tests.{ne_eqb, not-false}
 use Rattle.refusal.specs.Refusal.{Cause, first}
 use Rattle.refusal.proofs.Laws.{accepted_leaves, none_holds, refused_leaves}
 use Rattle.table.specs.declared.Table.{Table}
-use Rattle.table.specs.declared.Found.{Found}
-use Rattle.table.specs.Table.{empty_table, lookup_of, slots, table_of, told}
-use Rattle.table.proofs.Laws.{told_apart}
+use Rattle.table.specs.Table.{empty_table, lookup_of, slots, table_of}
 use Rattle.filter.specs.Filter.{zeros}
 use Rattle.filter.specs.Triple.{is_length, well_formed}
 use Rattle.rules.specs.declared.Setup.{Setup}
@@ -61,40 +59,3 @@ long_refused s n h =
 pub tested : (s : Setup) (n : ℕ) {t : Table} {r : ℕ} → t ≡ empty_table → n ≤ 2560 → r ≡ first (switch_causes (switch_of s 0 t) (take n (zeros 2560))) → r ≡ setup_refusal s n
 unfolding setup_refusal
 tested s n {t} {r} e h q = q ∙ ap (λ (u : Table). first (switch_causes (switch_of s 0 u) (take n (zeros 2560)))) e ∙ ap (λ (f : List ℕ). first (switch_causes (fresh_of s) f)) (zeros_front n 2560 h)
-
--- ---- What is left
-
-pub cleared : {a v h : List ℕ} (v₀ h₀ : List ℕ) → a ≡ zeros slots → v ≡ zeros (length v₀) → length v₀ ≡ slots → h ≡ zeros (length h₀) → length h₀ ≡ slots → table_of a v h ≡ empty_table
-unfolding empty_table
-cleared v₀ h₀ a v lv h lh = rw (a, v, lv, h, lh)
-
-fresh_number : (s : Switch) (f : List ℕ) {r : ℕ} → sized s.table ≡ true → r ≡ setup_refusal s.setup (length f) → r ≡ fresh_refusal s f
-unfolding fresh_refusal
-fresh_number s f e q = rw e q
-
-module _ {s : Switch} {f : List ℕ} where
-  pub fresh_unsized : sized s.table ≡ false → FreshensLent (fresh_refusal s f) s f 1 s f
-  unfolding fresh_refusal
-  fresh_unsized e = rw e (record { number = refl; switch = refl; filter = refl })
-
-  module _ {r : ℕ} (e : sized s.table ≡ true) (q : r ≡ setup_refusal s.setup (length f)) where
-    pub fresh_refused : (r ≡ 0 → ⊥) → FreshensLent (fresh_refusal s f) s f r s f
-    fresh_refused some = let number = fresh_number s f e q in record { number = number; switch = refused_leaves number some _ _; filter = refused_leaves number some _ _ }
-
-    pub fresh_made : {t' : Table} {f' : List ℕ} → r ≡ 0 → t' ≡ empty_table → f' ≡ zeros (length f) → FreshensLent (fresh_refusal s f) s f 0 (switch_of s.setup 0 t') f'
-    fresh_made none t g =
-        let number = fresh_number s f e q in
-        record {
-          number = sym none ∙ number;
-          switch = ap (λ (u : Table). switch_of s.setup 0 u) t ∙ accepted_leaves number none _ _;
-          filter = g ∙ accepted_leaves number none _ _;
-        }
-
-module _ {t : Table} {x : ℕ} {held : List ℕ} where
-  pub lookup_unsized : sized t ≡ false → LooksUp t x held 1 held
-  unfolding lookup_refusal
-  lookup_unsized e = record { number = rw e; told = rw e }
-
-  pub looked_up : (a : Found) {held' : List ℕ} → sized t ≡ true → told a ≡ told (lookup_of t x) → held' ≡ found_values a → LooksUp t x held 0 held'
-  unfolding lookup_refusal
-  looked_up a e q h = record { number = rw e; told = h ∙ ap found_values (told_apart a (lookup_of t x) q) ∙ rw e }

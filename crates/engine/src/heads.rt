@@ -1,9 +1,9 @@
 // A head's switch, lent as its next nonce, its table's three arrays and its filter.
-ghost use Rattle.std.specs.Prelude.{[], ◌∷◌, ◌≡◌, cond, length, None, Some};
+ghost use Rattle.std.specs.Prelude.{[], ◌∷◌, ◌≡◌, IfOk, MatchOption, false, length, true};
 ghost use Rattle.refusal.specs.Number.{refused_as};
 ghost use Rattle.table.specs.Table.{table_of};
 ghost use Rattle.rules.specs.Verdict.{report_values};
-ghost use Rattle.engine.specs.Head.{FreshensLent, LooksUp, StepsLent, fresh_refusal, setup_refusal, sized, step_refusal, switch_in};
+ghost use Rattle.engine.specs.Head.{FreshensLent, LooksUp, StepsLent, fresh_of, fresh_refusal, setup_refusal, sized, step_refusal, switch_in};
 
 use head::Switch;
 use refusal::Refusal;
@@ -13,22 +13,14 @@ use table::{Entry, Table};
 const REPORT: usize = 8;
 
 // The table of three arrays that are lent, where these have their 64 elements each.
+#[tactic(auto, unfolding(crate::specs::Head::sized))]
 fn table_in(addresses: &[u64], via: &[u8], hops: &[u8]) -> Option<Table>
-    ensures { result ≡ cond (sized (table_of addresses.now via.now hops.now)) (Some (table_of addresses.now via.now hops.now)) None }
+    ensures { MatchOption result (sized (table_of addresses.now via.now hops.now) ≡ false) (λ t. (sized (table_of addresses.now via.now hops.now) ≡ true) × (t ≡ table_of addresses.now via.now hops.now)) }
 {
-    let Ok(addresses) = <[u64; Table::SLOTS]>::try_from(addresses) else {
-        return None;
-    };
-    let Ok(ports) = <[u8; Table::SLOTS]>::try_from(via) else {
-        return None;
-    };
-    let Ok(hops) = <[u8; Table::SLOTS]>::try_from(hops) else {
-        return None;
-    };
     Some(Table {
-        addresses,
-        ports,
-        hops,
+        addresses: addresses.try_into().ok()?,
+        ports: via.try_into().ok()?,
+        hops: hops.try_into().ok()?,
     })
 }
 
@@ -52,6 +44,7 @@ fn numbers_of(r: Report) -> [u64; REPORT]
 }
 
 // One step of a switch: a frame on a port.
+#[tactic(auto, unfolding(crate::specs::Head::step_refusal, crate::specs::Head::fitting))]
 pub fn sc_step(
     ports: u8,
     live: u16,
@@ -104,9 +97,11 @@ pub fn sc_step(
 // The bytes of the longest filter.
 const CELLS: usize = 2560;
 
-// The refusal of a fresh switch with a filter of so many bytes: 1.
-fn check_setup(setup: Setup, bytes: usize) -> Result<(), Refusal>
-    ensures { refused_as result ≡ setup_refusal setup bytes }
+// A switch that has met no frame: table empty, next nonce 0. Refusal 1 with an empty filter of so
+// many bytes comes first.
+fn fresh(setup: Setup, bytes: usize) -> Result<Switch, Refusal>
+    ensures refused { refused_as result ≡ setup_refusal setup bytes }
+    ensures made { IfOk result (λ s. s ≡ fresh_of setup) }
 {
     Refusal::IllFormed.when(CELLS < bytes)?;
     let switch = Switch {
@@ -115,10 +110,12 @@ fn check_setup(setup: Setup, bytes: usize) -> Result<(), Refusal>
         table: Table::empty(),
     };
     let cells = [0u8; CELLS];
-    switch.check(&cells[..bytes])
+    switch.check(&cells[..bytes])?;
+    Ok(switch)
 }
 
 // Makes a switch that has met no frame: table and filter empty, next nonce 0.
+#[tactic(auto, unfolding(crate::specs::Head::fresh_refusal))]
 pub fn sc_switch_fresh(
     ports: u8,
     live: u16,
@@ -143,18 +140,21 @@ pub fn sc_switch_fresh(
         limit,
         salt,
     };
-    if let Err(r) = check_setup(setup, filter.len()) {
-        return r.number();
+    match fresh(setup, filter.len()) {
+        Err(r) => r.number(),
+        Ok(switch) => {
+            *nonce = switch.nonce;
+            addresses.copy_from_slice(&switch.table.addresses);
+            via.copy_from_slice(&switch.table.ports);
+            hops.copy_from_slice(&switch.table.hops);
+            filter.fill(0);
+            0
+        }
     }
-    *nonce = 0;
-    addresses.fill(0);
-    via.fill(0);
-    hops.fill(0);
-    filter.fill(0);
-    0
 }
 
 // What a table has of an address.
+#[tactic(auto, unfolding(crate::specs::Head::lookup_refusal))]
 pub fn sc_lookup(
     addresses: &[u64],
     via: &[u8],
