@@ -1,6 +1,5 @@
 pub mod Laws
 mod Masks
-mod Plugging
 mod Setups
 mod Reading
 mod Standing

@@ -87,8 +87,5 @@ module _ {test : Plug → Bool} {at : ℕ → Plug} where
     masking_next = record { so_far = rw (v.so_far, m, t, e, add-one) }
 
   -- all ports of n are seen, where none from m on passes the test
-  pub masking_ends : (n m : ℕ) {p mask count : ℕ} → Masking test at p mask → p ≤ count → count ≤ p → count ≡ min n m → ((q : ℕ) → m ≤ q → test (at q) ≡ false)
-      → mask ≡ mask_of (λ q. test (at q)) n
-  masking_ends n m {p} {mask} {count} v low high e none =
-      let same : p ≡ min n m = omega arith in
-      v.so_far ∙ ap (λ q. mask_of (λ r. test (at r)) q) same ∙ sym (mask_cut (λ q. test (at q)) n m none)
+  pub masking_ends : (n m : ℕ) {p mask : ℕ} → Masking test at p mask → p ≡ min n m → ((q : ℕ) → m ≤ q → test (at q) ≡ false) → mask ≡ mask_of (λ q. test (at q)) n
+  masking_ends n m v same none = v.so_far ∙ ap (λ q. mask_of (λ r. test (at r)) q) same ∙ sym (mask_cut (λ q. test (at q)) n m none)

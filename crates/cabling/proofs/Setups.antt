@@ -17,12 +17,12 @@ pub plug_above : (ps : List ℕ) (k p : ℕ) → most_ports ≤ p → plug_at ps
 unfolding plug_at
 plug_above ps k p h = rw (le-ltb p most_ports h)
 
-pub setup_is : (n : Network) (ps : List ℕ) (up : List Bool) (k : ℕ) {s : Switch} {count p live host limit : ℕ}
-    → s ≡ switch_at n k → count ≡ min s.ports most_ports → p ≤ count → count ≤ p
+pub setup_is : (n : Network) (ps : List ℕ) (up : List Bool) (k : ℕ) {s : Switch} {p live host limit : ℕ}
+    → s ≡ switch_at n k → p ≡ min s.ports most_ports
     → Masking (is_live up) (plug_at ps k) p live → Masking is_hosts (plug_at ps k) p host → limit ≡ limit_of s
     → ◌≡◌ {A = Setup} (record { ports = s.ports; live = live; host = host; limit = limit; salt = s.salt }) (setup_of n ps up k)
 unfolding setup_of is_live is_hosts
-setup_is n ps up k {s} {count} {p} {live} {host} {limit} e c low high a b l =
-    let lives = masking_ends s.ports most_ports a low high c (λ q h. rw (plug_above ps k q h)) in
-    let hosts = masking_ends s.ports most_ports b low high c (λ q h. rw (plug_above ps k q h)) in
+setup_is n ps up k {s} e all a b l =
+    let lives = masking_ends s.ports most_ports a all (λ q h. rw (plug_above ps k q h)) in
+    let hosts = masking_ends s.ports most_ports b all (λ q h. rw (plug_above ps k q h)) in
     rw (lives, hosts, l, e)

@@ -56,6 +56,7 @@ fn mark(plugs: &mut [u8], p: Port, number: u8)
 }
 
 // Each host is plugged in.
+#[tactic(auto, unfolding(crate::specs::Cabling::plug_all, crate::specs::Cabling::plug_host))]
 fn plug_hosts(n: &Network, plugs: &mut [u8])
     ensures { plugs.new ≡ plug_all (plug_host n.now.hosts) (min n.now.nhosts most_hosts) plugs.old }
 {
@@ -66,6 +67,7 @@ fn plug_hosts(n: &Network, plugs: &mut [u8])
 }
 
 // Each link is plugged in, at both ends.
+#[tactic(auto, unfolding(crate::specs::Cabling::plug_all, crate::specs::Cabling::plug_link))]
 fn plug_links(n: &Network, plugs: &mut [u8])
     ensures { plugs.new ≡ plug_all (plug_link n.now.links) (min n.now.nlinks most_links) plugs.old }
 {
@@ -78,6 +80,7 @@ fn plug_links(n: &Network, plugs: &mut [u8])
 }
 
 // What is plugged into each port, as one number.
+#[tactic(auto, unfolding(crate::specs::Cabling::plugs_of))]
 pub fn plugs_of(n: &Network) -> [u8; PLACES]
     ensures { result ≡ plugs_of n.now }
 {
@@ -88,6 +91,7 @@ pub fn plugs_of(n: &Network) -> [u8; PLACES]
 }
 
 // What a number stands for.
+#[tactic(auto, unfolding(crate::specs::Cabling::plug_in))]
 fn plug_in(number: u8) -> Plug
     ensures { result ≡ plug_in number }
 {
@@ -105,6 +109,7 @@ fn plug_in(number: u8) -> Plug
 }
 
 // What is plugged into a port of a switch.
+#[tactic(auto, unfolding(crate::specs::Cabling::plug_at, crate::specs::Cabling::plug_in))]
 pub fn plug_at(plugs: &[u8], switch: u8, port: u8) -> Plug
     ensures { result ≡ plug_at plugs.now switch port }
 {
@@ -119,6 +124,7 @@ pub fn plug_at(plugs: &[u8], switch: u8, port: u8) -> Plug
 }
 
 // Whether a port with this plug is up: host ports always are.
+#[tactic(auto, unfolding(crate::specs::Cabling::is_live))]
 fn is_live(up: &[bool], plug: Plug) -> bool
     ensures { result ≡ is_live up.now plug }
 {
@@ -133,6 +139,7 @@ fn is_live(up: &[bool], plug: Plug) -> bool
 }
 
 // Whether a port with this plug is a host's.
+#[tactic(auto, unfolding(crate::specs::Cabling::is_hosts))]
 fn is_hosts(plug: Plug) -> bool
     ensures { result ≡ is_hosts plug }
 {
@@ -170,6 +177,7 @@ pub fn setup_of(n: &Network, plugs: &[u8], up: &[bool], switch: u8) -> Setup
 }
 
 // The port at an end of a link.
+#[tactic(auto, unfolding(crate::specs::Cabling::port_of))]
 pub fn port_of(n: &Network, e: End) -> Port
     ensures { result ≡ port_of n.now e }
 {
