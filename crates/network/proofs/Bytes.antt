@@ -14,85 +14,10 @@ use Rattle.wire.proofs.Laws.{written_back, read_back}
 use Rattle.network.specs.declared.Port.{Port}
 use Rattle.network.specs.declared.Record.{Record}
 use Rattle.network.specs.declared.Record.TheVariants.{Switch as OfSwitch, Host as OfHost, Link as OfLink}
-use Rattle.network.specs.declared.Start.{Start}
-use Rattle.network.specs.declared.Start.TheVariants.{End, Bad, Got}
-use Rattle.network.specs.Format.{kind_of, length_of, is_event, body_of, encode, port_in, record_of, length_in, kind_in, body_in, headless, misfit, start_of}
-
--- what the code reads at a place of the input is what the definition reads of the rest from that place on
-module _ (l : List ℕ) (at : ℕ) where
-  first_behind : get_or (drop at l) 0 0 ≡ get_or l at 0
-  first_behind = get_or-drop at l 0 0 ∙ rw add-zero
-
-  ports_behind : (k : ℕ) → port_in k (drop at l) ≡ port_in (at + k) l
-  ports_behind k = rw (get_or-drop at l k 0, get_or-drop at l (k + 1) 0, add_assoc at k 1)
-
-  first_port : port_in 0 (drop at l) ≡ port_in at l
-  first_port = ports_behind 0 ∙ rw add-zero
-
-  pub switch_read : {ports limit salt : ℕ} → ports ≡ get_or l at 0 → limit ≡ get_or l (at + 1) 0 → salt ≡ number (part (at + 2) 4 l)
-      → OfSwitch (record { ports = ports; limit = limit; salt = salt }) ≡ record_of 1 (drop at l)
-  unfolding record_of
-  switch_read p q r = rw (first_behind, get_or-drop at l 1 0, drop-drop 2 at l, p, q, r)
-
-  pub host_read : {port : Port} {address : ℕ} → port ≡ port_in at l → address ≡ number (part (at + 2) 6 l)
-      → OfHost (record { port = port; address = address }) ≡ record_of 2 (drop at l)
-  unfolding record_of
-  host_read p q = rw (first_port, drop-drop 2 at l, p, q)
-
-  pub link_read : (kind : ℕ) {first second : Port} → (kind ≡ 1 → ⊥) → (kind ≡ 2 → ⊥) → first ≡ port_in at l → second ≡ port_in (at + 2) l
-      → OfLink (record { first = first; second = second }) ≡ record_of kind (drop at l)
-  unfolding record_of
-  link_read kind h k p q = rw (ne_eqb kind 1 h, ne_eqb kind 2 k, first_port, ports_behind 2, p, q)
-
-  pub cut_early : length l - at < 3 → true ≡ headless (drop at l)
-  unfolding headless
-  cut_early h = rw (length-drop at l, lt-ltb (length l - at) 3 h)
-
-  pub headless_is : 3 ≤ length l - at → headless (drop at l) ≡ eqb (number (part at 2 l)) 0
-  unfolding headless
-  headless_is h = rw (length-drop at l, le-ltb (length l - at) 3 h)
-
-  -- with the length and the kind that the code read
-  module _ {long kind : ℕ} (p : long ≡ number (part at 2 l)) (k : kind ≡ get_or l (at + 2) 0) where
-    misfit_is : misfit (drop at l) ≡ not (eqb long (length_of kind)) || ltb (length l - at) (long + 2)
-    unfolding misfit
-    misfit_is = rw (length-drop at l, get_or-drop at l 2 0, p, k)
-
-    module _ {due : ℕ} (e : due ≡ length_of kind) where
-      pub misfit_length : (long ≡ due → ⊥) → true ≡ misfit (drop at l)
-      misfit_length h = sym (misfit_is ∙ rw (← e, ne_eqb long due h))
-
-      pub misfit_cut : long ≡ due → ltb (length l - at) (long + 2) ≡ misfit (drop at l)
-      misfit_cut h = sym (misfit_is ∙ rw (← e, eq-eqb long due h))
-
-  pub start_none : length l - at ≡ 0 → End ≡ start_of (drop at l)
-  unfolding start_of
-  start_none h = rw (length-drop at l, h)
-
-  module _ (some : length l - at ≡ 0 → ⊥) where
-    some_left : eqb (length (drop at l)) 0 ≡ false
-    some_left = rw (length-drop at l) (ne_eqb (length l - at) 0 some)
-
-    pub start_headless : headless (drop at l) ≡ true → Bad ≡ start_of (drop at l)
-    unfolding start_of
-    start_headless h = rw (some_left, h)
-
-    module _ (head : headless (drop at l) ≡ false) {kind : ℕ} (k : kind ≡ get_or l (at + 2) 0) where
-      kind_is : get_or (drop at l) 2 0 ≡ kind
-      kind_is = get_or-drop at l 2 0 ∙ sym k
-
-      pub start_event : is_event kind ≡ true → End ≡ start_of (drop at l)
-      unfolding start_of
-      start_event h = rw (some_left, head, kind_is, h)
-
-      module _ (none : is_event kind ≡ false) where
-        pub start_misfit : misfit (drop at l) ≡ true → Bad ≡ start_of (drop at l)
-        unfolding start_of
-        start_misfit h = rw (some_left, head, kind_is, none, h)
-
-        pub start_got : misfit (drop at l) ≡ false → {r : Record} → r ≡ record_of kind (drop (at + 3) l) → Got r ≡ start_of (drop at l)
-        unfolding start_of
-        start_got h e = rw (some_left, head, kind_is, none, h, drop-drop 3 at l, e)
+use Rattle.std.specs.Prelude.{Ok, Err, Option, Some, None}
+use Rattle.refusal.specs.declared.Refusal.{Refusal}
+use Rattle.refusal.specs.declared.Refusal.TheVariants.{BadRecord as Bad}
+use Rattle.network.specs.Format.{Start, kind_of, length_of, is_event, body_of, encode, port_in, record_of, length_in, kind_in, body_in, headless, misfit, start_of}
 
 -- neither of two tests holds
 pub neither : (a b : Bool) → a || b ≡ false → (a ≡ false) × (b ≡ false)
@@ -135,46 +60,53 @@ whole b h m =
       room = ltb-false _ _ q.1;
     }
 
--- the places that the code reads of it
-pub head_room : (l : List ℕ) (at : ℕ) → at ≤ length l → headless (drop at l) ≡ false → at + 3 ≤ length l
-unfolding headless
-head_room l at within h =
-    let long : 3 ≤ length (drop at l) = ltb-false _ _ (neither (ltb (length (drop at l)) 3) (eqb (length_in (drop at l)) 0) h).0 in
-    omega (arith, length-drop at l)
-
-pub body_room : (l : List ℕ) (at : ℕ) → at ≤ length l → headless (drop at l) ≡ false → misfit (drop at l) ≡ false → at + 3 + 4 ≤ length l
-body_room l at within h m =
-    let v = whole (drop at l) h m in
-    omega (arith, length-drop at l, length_least (kind_in (drop at l)) (λ e. v.some (v.sized ∙ e)))
-
 -- what starts with a record
 pub record Starts (b : List ℕ) (r : Record) : Type 0 where
   pub whole : Whole b
   pub is : r ≡ record_of (kind_in b) (body_in b)
 
-pub starts : (b : List ℕ) (r : Record) → start_of b ≡ Got r → Starts b r
+pub starts : (b : List ℕ) (r : Record) → start_of b ≡ Ok (Some r) → Starts b r
 unfolding start_of
 starts b r e = by_tests (eqb (length b) 0) (headless b) (is_event (kind_in b)) (misfit b) refl refl e
   where
-    other : (x : Start) → x ≡ End → x ≡ Got r → ⊥
+    other : (x : Start) → x ≡ Ok None → x ≡ Ok (Some r) → ⊥
     other x p q = let z : ◌≡◌ {A = ℕ} 0 1 = cc in omega arith
 
-    worse : (x : Start) → x ≡ Bad → x ≡ Got r → ⊥
+    worse : (x : Start) → x ≡ Err Bad → x ≡ Ok (Some r) → ⊥
     worse x p q = let z : ◌≡◌ {A = ℕ} 0 1 = cc in omega arith
 
-    same : {x : Record} → Got x ≡ Got r → r ≡ x
+    same : {x : Record} → ◌≡◌ {A = Start} (Ok (Some x)) (Ok (Some r)) → r ≡ x
     same q = cc
 
     by_tests : (none head event fit : Bool) → headless b ≡ head → misfit b ≡ fit
-        → cond none End (cond head Bad (cond event End (cond fit Bad (Got (record_of (kind_in b) (body_in b)))))) ≡ Got r
+        → cond none (Ok None) (cond head (Err Bad) (cond event (Ok None) (cond fit (Err Bad) (Ok (Some (record_of (kind_in b) (body_in b))))))) ≡ Ok (Some r)
         → Starts b r
-    by_tests true head event fit h m q = absurd (other End refl q)
-    by_tests false true event fit h m q = absurd (worse Bad refl q)
-    by_tests false false true fit h m q = absurd (other End refl q)
-    by_tests false false false true h m q = absurd (worse Bad refl q)
+    by_tests true head event fit h m q = absurd (other (Ok None) refl q)
+    by_tests false true event fit h m q = absurd (worse (Err Bad) refl q)
+    by_tests false false true fit h m q = absurd (other (Ok None) refl q)
+    by_tests false false false true h m q = absurd (worse (Err Bad) refl q)
     by_tests false false false false h m q = record { whole = whole b h m; is = same q }
 
-pub whole_starts : (b : List ℕ) → Whole b → is_event (kind_in b) ≡ false → start_of b ≡ Got (record_of (kind_in b) (body_in b))
+-- what starts with no record is a bad one
+pub none_is : (b : List ℕ) (f : Refusal) → start_of b ≡ Err f → f ≡ Bad
+unfolding start_of
+none_is b f e = by_tests (eqb (length b) 0) (headless b) (is_event (kind_in b)) (misfit b) e
+  where
+    none : (x : Option Record) → ◌≡◌ {A = Start} (Ok x) (Err f) → ⊥
+    none x q = let z : ◌≡◌ {A = ℕ} 0 1 = cc in omega arith
+
+    same : ◌≡◌ {A = Start} (Err Bad) (Err f) → f ≡ Bad
+    same q = cc
+
+    by_tests : (none_left head event fit : Bool)
+        → cond none_left (Ok None) (cond head (Err Bad) (cond event (Ok None) (cond fit (Err Bad) (Ok (Some (record_of (kind_in b) (body_in b))))))) ≡ Err f → f ≡ Bad
+    by_tests true head event fit q = absurd (none _ q)
+    by_tests false true event fit q = same q
+    by_tests false false true fit q = absurd (none _ q)
+    by_tests false false false true q = same q
+    by_tests false false false false q = absurd (none _ q)
+
+pub whole_starts : (b : List ℕ) → Whole b → is_event (kind_in b) ≡ false → start_of b ≡ Ok (Some (record_of (kind_in b) (body_in b)))
 unfolding start_of headless misfit
 whole_starts b v e =
     rw (
@@ -215,7 +147,7 @@ unfolding record_of kind_of
 kind_back body = known (λ kind. kind_of (record_of kind body) ≡ kind) refl refl refl
 
 -- a record that starts here lies within the bytes
-pub starts_room : (b : List ℕ) (r : Record) → start_of b ≡ Got r → length (encode r) ≤ length b
+pub starts_room : (b : List ℕ) (r : Record) → start_of b ≡ Ok (Some r) → length (encode r) ≤ length b
 starts_room b r e =
     let v = starts b r e in
     let kind : kind_of r ≡ kind_in b = ap kind_of v.is ∙ kind_back (body_in b) (kind_in b) (λ z. v.whole.some (v.whole.sized ∙ z)) in
@@ -256,9 +188,9 @@ encoded r t =
     }
 
 -- a record's bytes start with that record, whatever stands behind them
-pub there : (r : Record) (t : List ℕ) → Fits r → start_of (encode r ++ t) ≡ Got r
+pub there : (r : Record) (t : List ℕ) → Fits r → start_of (encode r ++ t) ≡ Ok (Some r)
 unfolding encode
-there r t h = whole_starts (encode r ++ t) (encoded r t) (no_event r) ∙ ap Got (body_there r t h)
+there r t h = whole_starts (encode r ++ t) (encoded r t) (no_event r) ∙ ap (λ x. Ok (Some x)) (body_there r t h)
 
 -- parts of bytes are bytes
 pub bytes_drop : (k : ℕ) (l : List ℕ) → AreBytes l → AreBytes (drop k l)
@@ -305,7 +237,7 @@ body_back body h =
     (λ room. four_bytes body (omega arith))
 
 -- what starts with a record is that record's bytes
-pub back : (b : List ℕ) (r : Record) → AreBytes b → start_of b ≡ Got r → encode r ++ drop (length (encode r)) b ≡ b
+pub back : (b : List ℕ) (r : Record) → AreBytes b → start_of b ≡ Ok (Some r) → encode r ++ drop (length (encode r)) b ≡ b
 unfolding encode
 back b r h e =
     let v = starts b r e in

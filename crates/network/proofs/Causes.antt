@@ -25,10 +25,11 @@ use Rattle.network.specs.declared.Link.{Link}
 use Rattle.network.specs.declared.Network.{Network}
 use Rattle.network.specs.declared.Record.{Record}
 use Rattle.network.specs.declared.Record.TheVariants.{Switch as OfSwitch, Host as OfHost, Link as OfLink}
-use Rattle.network.specs.declared.Start.{Start}
-use Rattle.network.specs.declared.Start.TheVariants.{End, Bad, Got}
+use Rattle.std.specs.Prelude.{Ok, Err, Some as Just, None}
+use Rattle.refusal.specs.declared.Refusal.{Refusal}
+use Rattle.refusal.specs.declared.Refusal.TheVariants.{BadRecord as Bad}
 use Rattle.network.specs.Network.{most_switches, most_hosts, most_links, no_switch, no_host, no_link, switches_of, hosts_of, links_of, empty_network, add, built, records}
-use Rattle.network.specs.Format.{port_bytes, port_in, encode, record_of, length_of, length_in, kind_in, body_in, is_event, headless, misfit, start_of}
+use Rattle.network.specs.Format.{Start, port_bytes, port_in, encode, record_of, length_of, length_in, kind_in, body_in, is_event, headless, misfit, start_of}
 use Rattle.network.specs.Checks.{any, place, taken, stands, not_above, too_many, out_of_order, switch_out, out_of_range, port_taken, address_out, bad_address, causes, record_fault, records_fault, network_fault}
 use Rattle.network.specs.Describe.{Scan, version, scanned, scan, scan_of, versionless, read_causes, read_fault, image, write_causes, write_fault}
 use Rattle.network.specs.Sound.{FineSwitch, Standing}
@@ -295,9 +296,9 @@ scan_bytes (suc turns) at b h = by_start (start_of b) refl (λ r. scan_bytes tur
     behind r = scan turns (at + length (encode r)) (drop (length (encode r)) b)
 
     by_start : (p : Start) → start_of b ≡ p → ((r : Record) → AllInBytes (behind r).found) → AllInBytes (scanned p at behind).found
-    by_start End q go r m = absurd (Memᴰ.not-nil m)
-    by_start Bad q go r m = absurd (Memᴰ.not-nil m)
-    by_start (Got s) q go r m =
+    by_start (Ok None) q go r m = absurd (Memᴰ.not-nil m)
+    by_start (Err f) q go r m = absurd (Memᴰ.not-nil m)
+    by_start (Ok (Just s)) q go r m =
         let here : InBytes s = rw (starts b s q).is (record_bytes (kind_in b) (body_in b) (bytes_drop 3 b h)) in
         ⊎_elim (λ (e : r ≡ s). rw e here) (λ n. go s r n) (Memᴰ.cases_cons m)
 
@@ -337,19 +338,19 @@ unknown_length kind out = rw (ne_eqb kind 1 (other 1 (omega arith) (omega arith)
     other : (k : ℕ) → 1 ≤ k → k ≤ 3 → kind ≢ k
     other k low high e = ⊎_elim (λ (h : kind < 1). omega arith) (λ (h : 3 < kind). omega arith) out
 
-end_not_bad : {x : Start} → x ≡ End → x ≡ Bad → ⊥
+end_not_bad : {x : Start} {f : Refusal} → x ≡ Ok None → x ≡ Err f → ⊥
 end_not_bad p q = let z : ◌≡◌ {A = ℕ} 0 1 = cc in omega arith
 
-got_not_bad : {x : Start} {r : Record} → x ≡ Got r → x ≡ Bad → ⊥
+got_not_bad : {x : Start} {r : Record} {f : Refusal} → x ≡ Ok (Just r) → x ≡ Err f → ⊥
 got_not_bad p q = let z : ◌≡◌ {A = ℕ} 0 1 = cc in omega arith
 
 module _ (b : List ℕ) where
-  start_bad : start_of b ≡ Bad → BadRecord b
+  start_bad : {f : Refusal} → start_of b ≡ Err f → BadRecord b
   unfolding start_of
-  start_bad q = by_tests (eqb (length b) 0) (headless b) (is_event (kind_in b)) (misfit b) refl refl refl refl q
+  start_bad {f} q = by_tests (eqb (length b) 0) (headless b) (is_event (kind_in b)) (misfit b) refl refl refl refl q
     where
       by_tests : (none head event fit : Bool) → eqb (length b) 0 ≡ none → headless b ≡ head → is_event (kind_in b) ≡ event → misfit b ≡ fit
-          → cond none End (cond head Bad (cond event End (cond fit Bad (Got (record_of (kind_in b) (body_in b)))))) ≡ Bad
+          → cond none (Ok None) (cond head (Err Bad) (cond event (Ok None) (cond fit (Err Bad) (Ok (Just (record_of (kind_in b) (body_in b))))))) ≡ Err f
           → BadRecord b
       by_tests true head event fit n h k m q = absurd (end_not_bad refl q)
       by_tests false true event fit n h k m q = record { some = eqb-false (length b) 0 n; bad = inl ((headless_words b).0 h) }
@@ -357,7 +358,7 @@ module _ (b : List ℕ) where
       by_tests false false false true n h k m q = record { some = eqb-false (length b) 0 n; bad = inr (no_event (kind_in b) k, inr ((misfit_words b).0 m)) }
       by_tests false false false false n h k m q = absurd (got_not_bad refl q)
 
-  bad_starts : BadRecord b → start_of b ≡ Bad
+  bad_starts : BadRecord b → start_of b ≡ Err Bad
   unfolding start_of
   bad_starts v = rw (ne_eqb (length b) 0 v.some) (by_test (headless b) refl v.bad)
     where
@@ -367,7 +368,7 @@ module _ (b : List ℕ) where
 
       by_test : (head : Bool) → headless b ≡ head
           → ((length b < 3) ⊎ (length_in b ≡ 0)) ⊎ (Outside 4 6 (kind_in b) × (Outside 1 3 (kind_in b) ⊎ (length_in b ≢ length_of (kind_in b)) ⊎ (length b < length_in b + 2)))
-          → cond head Bad (cond (is_event (kind_in b)) End (cond (misfit b) Bad (Got (record_of (kind_in b) (body_in b))))) ≡ Bad
+          → cond head (Err Bad) (cond (is_event (kind_in b)) (Ok None) (cond (misfit b) (Err Bad) (Ok (Just (record_of (kind_in b) (body_in b)))))) ≡ Err Bad
       by_test true h w = refl
       by_test false h (inl w) = absurd (true≢false (sym ((headless_words b).1 w) ∙ h))
       by_test false h (inr w) = rw (event_none (kind_in b) w.0, fits_not h w.1)
@@ -384,13 +385,13 @@ bad_behind (suc turns) at b h =
     behind r = scan turns (at + length (encode r)) (drop (length (encode r)) (drop at b))
 
     by_start : (p : Start) → start_of (drop at b) ≡ p
-        → ((r : Record) → start_of (drop at b) ≡ Got r
+        → ((r : Record) → start_of (drop at b) ≡ Ok (Just r)
         → (not (scan turns (at + length (encode r)) (drop (at + length (encode r)) b)).whole ≡ true)
         ↔ BadRecord (drop (scan turns (at + length (encode r)) (drop (at + length (encode r)) b)).end b))
         → (not (scanned p at behind).whole ≡ true) ↔ BadRecord (drop (scanned p at behind).end b)
-    by_start End q go = (λ e. absurd (false≢true e), λ v. absurd (end_not_bad q (bad_starts (drop at b) v)))
-    by_start Bad q go = (λ e. start_bad (drop at b) q, λ v. refl)
-    by_start (Got r) q go = rw (drop-drop (length (encode r)) at b) (go r q)
+    by_start (Ok None) q go = (λ e. absurd (false≢true e), λ v. absurd (end_not_bad q (bad_starts (drop at b) v)))
+    by_start (Err f) q go = (λ e. start_bad (drop at b) q, λ v. refl)
+    by_start (Ok (Just r)) q go = rw (drop-drop (length (encode r)) at b) (go r q)
 
 pub read_causes_in_words : ReadCausesInWords
 unfolding versionless scan_of

@@ -6,19 +6,21 @@ use mathlib.Core.List.{List, [], ◌∷◌}
 use native.Mathlib.Omega.{arith}
 use lib.Dec.{eqb}
 use borrow.Author.Tests.{eq-eqb, ne_eqb, eqb-true, eqb-false, leb-false}
+use Rattle.std.specs.Prelude.{Result, Ok, Err}
 use Rattle.refusal.specs.Refusal.{first, answered}
+use Rattle.refusal.specs.Number.{number_of, told}
+use Rattle.refusal.specs.declared.Refusal.{Refusal}
 use Rattle.refusal.specs.Exact.{Numbered}
-use Rattle.refusal.proofs.Laws.{for_its_cause_only}
+use Rattle.refusal.proofs.Laws.{for_its_cause_only, refused_answer}
+use Rattle.refusal.proofs.Told.{refused_apart}
 use Rattle.network.specs.declared.Switch.{Switch}
 use Rattle.network.specs.declared.Host.{Host}
 use Rattle.network.specs.declared.Link.{Link}
 use Rattle.network.specs.declared.Network.{Network}
 use Rattle.network.specs.declared.Record.{Record}
 use Rattle.network.specs.declared.Record.TheVariants.{Switch as OfSwitch, Host as OfHost, Link as OfLink}
-use Rattle.network.specs.declared.Answer.TheVariants.{Refused}
 use Rattle.network.specs.Network.{add}
 use Rattle.network.specs.Checks.{causes, checked, record_fault, records_fault, too_many, out_of_order, out_of_range, port_taken, bad_address}
-use Rattle.network.specs.Describe.{told}
 
 -- a record without a fault
 pub record Passes (n : Network) (r : Record) : Type 0 where
@@ -84,8 +86,13 @@ module _ (n : Network) (r : Record) (rs : List Record) where
   pub none_behind : records_fault n (r ∷ rs) ≡ 0 → records_fault (add n r) rs ≡ 0
   none_behind e = sym (fault_behind (none_here e)) ∙ e
 
+-- a refusal's number is not 0, which is none's
+pub some : (r : Refusal) → number_of r ≡ 0 → ⊥
+some r e = other (refused_apart r (Ok tt) (sym e))
+  where
+    other : ◌≡◌ {A = Result (Unit {0}) Refusal} (Ok tt) (Err r) → ⊥
+    other p = let z : ◌≡◌ {A = ℕ} 0 1 = cc in omega arith
+
 -- a refusal's answer has its number alone
-pub told_refused : (number : ℕ) (vs : List ℕ) → (number ≡ 0 → ⊥) → told (Refused number) ≡ answered number vs
-unfolding told
-told_refused zero vs h = absurd (h refl)
-told_refused (suc number) vs h = refl
+pub told_refused : {A : Type 0} (values : A → List ℕ) (r : Refusal) {number : ℕ} (vs : List ℕ) → number ≡ number_of r → told values (Err r) ≡ answered number vs
+told_refused values r vs e = refused_answer (sym e) (some r) vs

@@ -9,7 +9,8 @@ use native.Mathlib.Decide.{ℕ_discrete}
 use native.Mathlib.Omega.{arith}
 use lib.ListN.{length, get_or}
 use borrow.Author.Tests.{eq-eqb, ne_eqb}
-use Rattle.refusal.specs.Refusal.{Told}
+use Rattle.refusal.specs.OneOutcome.{TellsApart}
+use Rattle.refusal.proofs.Told as refusal
 use Rattle.wire.specs.Wire.{bytes_of, AreBytes}
 use Rattle.network.specs.declared.Port.{Port}
 use Rattle.network.specs.declared.Switch.{Switch}
@@ -18,11 +19,10 @@ use Rattle.network.specs.declared.Link.{Link}
 use Rattle.network.specs.declared.Network.{Network}
 use Rattle.network.specs.declared.Record.{Record}
 use Rattle.network.specs.declared.Record.TheVariants.{Switch as OfSwitch, Host as OfHost, Link as OfLink}
-use Rattle.network.specs.declared.Answer.TheVariants.{Refused, Ends}
 use Rattle.network.specs.Network.{no_switch, no_host, no_link, limit_of, switches_of, hosts_of, links_of, records}
 use Rattle.network.specs.Format.{kind_of, body_of, port_bytes, encode}
 use Rattle.network.specs.Checks.{network_fault}
-use Rattle.network.specs.Describe.{told, encode_all, image}
+use Rattle.network.specs.Describe.{end_values, encode_all, image}
 use Rattle.network.specs.RoundTrip.{SameNetworks, ToldApart}
 use Rattle.network.specs.Sound.{FineSwitch, Standing, Sound}
 use Rattle.network.proofs.Lists.{up_to_at}
@@ -33,12 +33,12 @@ pub use Rattle.network.proofs.Built.{switches_long, hosts_long, links_long}
 pub use Rattle.network.proofs.Trip.{written_reads_back, events_behind, read_writes_back, reads_cleared}
 pub use Rattle.network.proofs.Soundness.{accepted_is_sound}
 
+-- an answer's value gives it back
+ends_apart : TellsApart end_values
+ends_apart a b e = cc
+
 pub told_apart : ToldApart
-unfolding told
-told_apart (Refused a) (Refused b) e = ap (λ x. Refused x) (ap (λ (t : Told). t.number) e)
-told_apart (Ends a) (Ends b) e = let same : a ∷ [] ≡ b ∷ [] = ap (λ (t : Told). t.values) e in cc
-told_apart (Refused a) (Ends b) e = let same : [] ≡ b ∷ [] = ap (λ (t : Told). t.values) e in let z : ◌≡◌ {A = ℕ} 0 1 = cc in absurd (omega arith)
-told_apart (Ends a) (Refused b) e = let same : a ∷ [] ≡ [] = ap (λ (t : Told). t.values) e in let z : ◌≡◌ {A = ℕ} 0 1 = cc in absurd (omega arith)
+told_apart = refusal.told_apart ends_apart
 
 -- element i of the lists is element i of the arrays
 pub switch_is : (n : Network) (i : ℕ) → i < n.nswitches → get_or (switches_of n) i no_switch ≡ get_or n.switches i no_switch

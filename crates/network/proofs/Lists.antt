@@ -1,13 +1,14 @@
 -- Laws of an array's first places, and of a search in them.
 use Prim.Native.Nat.{ℕ, zero, suc, ◌+◌, ◌<◌, ◌≤◌}
 use mathlib.Core.Path.{◌≡◌, refl, sym, ap, ◌∙◌}
-use mathlib.Core.Bool.{Bool, true, false, ◌||◌}
+use mathlib.Core.Bool.{Bool, true, false, ◌||◌, true≢false, false≢true}
 use mathlib.Core.List.{List, [], ◌∷◌, ◌++◌, Memᴰ}
 use native.Mathlib.Nat.{le_of_suc-le-suc, not-suc-le-zero}
 use native.Mathlib.Numerals.{add-one}
 use native.Mathlib.Omega.{arith}
 use lib.ListN.{length, get_or, take, drop, set, length-set, drop_of_length-le}
 use lib.Seq.{drop-cons, take-suc-set}
+use Rattle.std.specs.List.{list_any}
 use Rattle.network.specs.Network.{up_to}
 use Rattle.network.specs.Checks.{any}
 
@@ -64,44 +65,47 @@ module _ {A : Type 0} (unused : A) where
   at_member zero (x ∷ xs) h = Memᴰ.head refl
   at_member (suc k) (x ∷ xs) h = Memᴰ.tail (at_member k xs (le_of_suc-le-suc h))
 
-  -- of unused elements, one answers for all
+  -- an array is asked as far as it goes, and behind its end one unused element, which answers for the rest
   any_unused : (test : A → Bool) (k : ℕ) → (test unused || any test (up_to unused k [])) ≡ test unused
   unfolding up_to any
   any_unused test zero = or_none (test unused)
   any_unused test (suc k) = rw (any_unused test k) (or_same (test unused))
 
-  pub any_behind : (test : A → Bool) (k : ℕ) (xs : List A) (i : ℕ) → length xs ≤ i → i < k → any test (drop i (up_to unused k xs)) ≡ test unused
+  any_there : (test : A → Bool) (n : ℕ) (xs : List A) → list_any test (take n xs) ≡ true → true ≡ any test (up_to unused n xs)
   unfolding up_to any
-  any_behind test zero xs i l h = absurd (not-suc-le-zero h)
-  any_behind test (suc k) [] zero l h = any_unused test k
-  any_behind test (suc k) [] (suc i) l h = any_behind test k [] i (omega arith) (le_of_suc-le-suc h)
-  any_behind test (suc k) (x ∷ xs) zero l h = absurd (not-suc-le-zero l)
-  any_behind test (suc k) (x ∷ xs) (suc i) l h = any_behind test k xs i (le_of_suc-le-suc l) (le_of_suc-le-suc h)
+  any_there test zero xs e = absurd (false≢true e)
+  any_there test (suc k) [] e = absurd (false≢true e)
+  any_there test (suc k) (x ∷ xs) e = by_test (test x) (any_there test k xs) e
+    where
+      by_test : (b : Bool) → (list_any test (take k xs) ≡ true → true ≡ any test (up_to unused k xs))
+          → (b || list_any test (take k xs)) ≡ true → true ≡ (b || any test (up_to unused k xs))
+      by_test true go q = refl
+      by_test false go q = go q
 
-  -- none of the first i of n elements passes the test
-  pub record Sought (test : A → Bool) (n : ℕ) (xs : List A) (i : ℕ) : Type 0 where
-    pub within : i ≤ n
-    pub rest : any test (up_to unused n xs) ≡ any test (drop i (up_to unused n xs))
+  any_within : (test : A → Bool) (n : ℕ) (xs : List A) → n ≤ length xs → list_any test (take n xs) ≡ any test (up_to unused n xs)
+  unfolding up_to any
+  any_within test zero xs h = refl
+  any_within test (suc k) [] h = absurd (not-suc-le-zero h)
+  any_within test (suc k) (x ∷ xs) h = ap (λ b. test x || b) (any_within test k xs (le_of_suc-le-suc h))
 
-module _ {A : Type 0} {unused : A} {test : A → Bool} {n : ℕ} {xs : List A} where
-  pub sought_starts : Sought unused test n xs 0
-  sought_starts = record { within = omega arith; rest = refl }
+  any_beyond : (test : A → Bool) (n : ℕ) (xs : List A) → length xs < n → list_any test (take n xs) ≡ false → test unused ≡ any test (up_to unused n xs)
+  unfolding up_to any
+  any_beyond test zero xs h e = absurd (not-suc-le-zero h)
+  any_beyond test (suc k) [] h e = sym (any_unused test k)
+  any_beyond test (suc k) (x ∷ xs) h e = by_test (test x) (any_beyond test k xs (le_of_suc-le-suc h)) e
+    where
+      by_test : (b : Bool) → (list_any test (take k xs) ≡ false → test unused ≡ any test (up_to unused k xs))
+          → (b || list_any test (take k xs)) ≡ false → test unused ≡ (b || any test (up_to unused k xs))
+      by_test true go q = absurd (true≢false q)
+      by_test false go q = go q
 
-  module _ {i : ℕ} (v : Sought unused test n xs i) where
-    here : i < n → {x : A} → x ≡ get_or xs i unused → drop i (up_to unused n xs) ≡ x ∷ drop (suc i) (up_to unused n xs)
-    here h e = drop-cons (up_to unused n xs) i unused (rw (up_to_long unused n xs) h) ∙ rw (up_to_at unused n xs i h, e)
+-- with the answer of a search through the array's first n
+module _ {A : Type 0} (unused : A) (test : A → Bool) (n : ℕ) (xs : List A) {found : Bool} (e : found ≡ list_any test (take n xs)) where
+  pub any_found : found ≡ true → found ≡ any test (up_to unused n xs)
+  any_found h = h ∙ any_there unused test n xs (sym e ∙ h)
 
-    pub sought_next : i < n → {x : A} → x ≡ get_or xs i unused → test x ≡ false → Sought unused test n xs (i + 1)
-    unfolding any
-    sought_next h e q = record { within = omega arith; rest = v.rest ∙ rw (here h e, q, add-one) }
+  pub any_behind : found ≡ false → length xs < n → {r : Bool} → r ≡ test unused → r ≡ any test (up_to unused n xs)
+  any_behind h l q = q ∙ any_beyond unused test n xs l (sym e ∙ h)
 
-    pub sought_found : i < n → {x : A} → x ≡ get_or xs i unused → test x ≡ true → true ≡ any test (up_to unused n xs)
-    unfolding any
-    sought_found h e q = sym (v.rest ∙ rw (here h e, q))
-
-    pub sought_behind : i < n → length xs ≤ i → {r : Bool} → r ≡ test unused → r ≡ any test (up_to unused n xs)
-    sought_behind h l e = e ∙ sym (v.rest ∙ any_behind unused test n xs i l h)
-
-    pub sought_ends : n ≤ i → false ≡ any test (up_to unused n xs)
-    unfolding any
-    sought_ends h = sym (v.rest ∙ rw (drop_of_length-le (up_to unused n xs) {i = i} (rw (up_to_long unused n xs) h)))
+  pub any_none : found ≡ false → n ≤ length xs → {r : Bool} → r ≡ false → r ≡ any test (up_to unused n xs)
+  any_none h l q = q ∙ sym h ∙ e ∙ any_within unused test n xs l

@@ -1,6 +1,6 @@
 -- The reader's loop: what was found makes the network so far, and what is left decides the rest.
 use Prim.Native.Nat.{ℕ, zero, suc, ◌+◌, ◌-◌, ◌<◌, ◌≤◌}
-use mathlib.Core.Path.{◌≡◌, refl, sym, ◌∙◌}
+use mathlib.Core.Path.{◌≡◌, refl, sym, ap, ◌∙◌}
 use mathlib.Core.Bool.{true, false, not}
 use mathlib.Core.List.{List, [], ◌∷◌}
 use native.Mathlib.Omega.{arith}
@@ -8,19 +8,18 @@ use lib.ListN.{length, get_or, drop, length-drop}
 use lib.Seq.{drop-drop}
 use borrow.Author.Tests.{ne_eqb, lt-ltb, le-ltb, eqb-false}
 use lib.Dec.{eqb}
+use Rattle.refusal.specs.Number.{number_of}
 use Rattle.refusal.specs.Refusal.{when, first, answered}
 use Rattle.network.specs.declared.Network.{Network}
 use Rattle.network.specs.declared.Record.{Record}
-use Rattle.network.specs.declared.Start.{Start}
-use Rattle.network.specs.declared.Start.TheVariants.{End, Bad, Got}
-use Rattle.network.specs.declared.Answer.{Answer}
-use Rattle.network.specs.declared.Answer.TheVariants.{Refused, Ends}
+use Rattle.std.specs.Prelude.{Ok, Err, Some, None}
+use Rattle.refusal.specs.declared.Refusal.{Refusal}
 use Rattle.network.specs.Network.{empty_network, add, built}
-use Rattle.network.specs.Format.{encode, start_of}
+use Rattle.network.specs.Format.{Start, encode, start_of}
 use Rattle.network.specs.Checks.{checked, record_fault, records_fault}
-use Rattle.network.specs.Describe.{told, Scan, scanned, scan, scan_of, versionless, read_fault, read_end, read_network}
-use Rattle.network.proofs.Bytes.{neither, starts_room, encode_least}
-use Rattle.network.proofs.Faults.{told_refused, fault_here, fault_behind}
+use Rattle.network.specs.Describe.{Scan, scanned, scan, scan_of, versionless, read_fault, read_end, read_network}
+use Rattle.network.proofs.Bytes.{neither, none_is, starts_room, encode_least}
+use Rattle.network.proofs.Faults.{some, fault_here, fault_behind}
 
 -- what is left to be decided of a scan behind a network
 abbrev left_fault : Network → Scan → ℕ
@@ -35,15 +34,13 @@ pub record Reading (b : List ℕ) (n : Network) (at : ℕ) : Type 0 where
   pub end : read_end b ≡ (scan turns at (drop at b)).end
   pub network : built empty_network (scan_of b).found ≡ built n (scan turns at (drop at b)).found
 
--- the reader's answer and the network beside it
-abbrev pub Answers : List ℕ → Answer → Network → Type 0
-Answers b answer n = (told answer ≡ answered (read_fault b) (read_end b ∷ [])) × (n ≡ read_network b)
+-- the description is accepted, ends here and has this network
+pub record Ends (b : List ℕ) (n : Network) (at : ℕ) : Type 0 where
+  pub fine : read_fault b ≡ 0
+  pub here : read_end b ≡ at
+  pub network : n ≡ read_network b
 
 module _ (b : List ℕ) where
-  pub answers_refused : {number : ℕ} {answer : Answer} {n : Network} → (number ≡ 0 → ⊥) → read_fault b ≡ number → answer ≡ Refused number → n ≡ empty_network → Answers b answer n
-  unfolding read_network
-  answers_refused {number} h e p q = (rw (p, e) (told_refused number (read_end b ∷ []) h), rw (q, e, ne_eqb number 0 h))
-
   pub too_long : 60000 < length b → read_fault b ≡ 25
   unfolding read_fault
   too_long h = rw (lt-ltb 60000 (length b) h)
@@ -83,20 +80,22 @@ module _ {b : List ℕ} {n : Network} {at : ℕ} (v : Reading b n at) where
       → scan v.turns at (drop at b) ≡ scanned p at (λ r. scan (v.turns - 1) (at + length (encode r)) (drop (length (encode r)) (drop at b)))
   now_at q = turn v.turns at (drop at b) (omega arith) q
 
-  pub reading_ends : start_of (drop at b) ≡ End → Answers b (Ends at) n
-  unfolding records_fault built told read_network
+  -- where the description ends, nothing is faulty, and all of it is read
+  pub reading_ends : start_of (drop at b) ≡ Ok None → Ends b n at
+  unfolding records_fault built read_network
   reading_ends q =
       let fine : read_fault b ≡ 0 = v.fault ∙ rw (now_at q) in
-      let here : read_end b ≡ at = v.end ∙ rw (now_at q) in
-      (rw (fine, here), rw (fine) (sym (v.network ∙ rw (now_at q))))
+      record { fine = fine; here = v.end ∙ rw (now_at q); network = rw (fine) (sym (v.network ∙ rw (now_at q))) }
 
-  pub reading_bad : start_of (drop at b) ≡ Bad → read_fault b ≡ 20
+  pub reading_bad : {f : Refusal} → start_of (drop at b) ≡ Err f → read_fault b ≡ number_of f
   unfolding records_fault
-  reading_bad q = v.fault ∙ rw (now_at q)
+  reading_bad {f} q = v.fault ∙ rw (now_at q) (sym (ap number_of (none_is (drop at b) f q)))
 
-  module _ {r : Record} (q : start_of (drop at b) ≡ Got r) where
-    pub reading_fault : (record_fault n r ≡ 0 → ⊥) → read_fault b ≡ record_fault n r
-    reading_fault h = v.fault ∙ rw (now_at q, fault_here n r _ h, ne_eqb (record_fault n r) 0 h)
+  module _ {r : Record} (q : start_of (drop at b) ≡ Ok (Some r)) where
+    pub reading_fault : (f : Refusal) → number_of f ≡ record_fault n r → read_fault b ≡ number_of f
+    reading_fault f p =
+        let h : record_fault n r ≡ 0 → ⊥ = λ z. some f (p ∙ z) in
+        v.fault ∙ rw (now_at q, fault_here n r _ h, ne_eqb (record_fault n r) 0 h) (sym p)
 
     pub reading_room : at + length (encode r) ≤ length b
     reading_room = omega (arith, v.within, starts_room (drop at b) r q, length-drop at b)

@@ -14,10 +14,10 @@ use Rattle.wire.specs.Wire.{AreBytes}
 use Rattle.network.specs.declared.Network.{Network}
 use Rattle.network.specs.declared.Record.{Record}
 use Rattle.network.specs.declared.Record.TheVariants.{Switch as OfSwitch, Host as OfHost, Link as OfLink}
-use Rattle.network.specs.declared.Start.{Start}
-use Rattle.network.specs.declared.Start.TheVariants.{End, Bad, Got}
+use Rattle.std.specs.Prelude.{Ok, Err, Some, None}
+use Rattle.refusal.specs.declared.Refusal.TheVariants.{BadRecord as Bad}
 use Rattle.network.specs.Network.{empty_network, records, add, built}
-use Rattle.network.specs.Format.{encode, start_of}
+use Rattle.network.specs.Format.{Start, encode, start_of}
 use Rattle.network.specs.Checks.{switch_out, out_of_range, stands, record_fault, records_fault, network_fault}
 use Rattle.network.specs.Describe.{Scan, scanned, scan, scan_of, versionless, read_fault, read_end, read_network, encode_all, image}
 use Rattle.network.specs.RoundTrip.{WrittenReadsBack, EventsBehind, ReadWritesBack, ReadsCleared}
@@ -38,7 +38,7 @@ fits n (OfHost h) e = leb-false (2 ^ 48) h.address (neither (not (stands n h.por
 fits n (OfLink l) e = tt
 
 -- the bytes of records without a fault are scanned as these records, up to what ends the description
-scan_there : (rs : List Record) (n : Network) (turns at : ℕ) (t : List ℕ) → records_fault n rs ≡ 0 → start_of t ≡ End → length (encode_all rs ++ t) < turns
+scan_there : (rs : List Record) (n : Network) (turns at : ℕ) (t : List ℕ) → records_fault n rs ≡ 0 → start_of t ≡ Ok None → length (encode_all rs ++ t) < turns
     → scan turns at (encode_all rs ++ t) ≡ record { found = rs; end = at + length (encode_all rs); whole = true }
 unfolding scan encode_all
 scan_there rs n zero at t e p h = absurd (omega arith)
@@ -91,9 +91,9 @@ scan_back (suc turns) at b h = by_start (start_of b) refl (λ r. scan_back turns
     behind r = scan turns (at + length (encode r)) (drop (length (encode r)) b)
 
     by_start : (p : Start) → start_of b ≡ p → ((r : Record) → Scanned (at + length (encode r)) (drop (length (encode r)) b) (behind r)) → Scanned at b (scanned p at behind)
-    by_start End q go = record { behind = b; bytes = refl; end = sym (add-zero at) }
-    by_start Bad q go = record { behind = b; bytes = refl; end = sym (add-zero at) }
-    by_start (Got r) q go =
+    by_start (Ok None) q go = record { behind = b; bytes = refl; end = sym (add-zero at) }
+    by_start (Err f) q go = record { behind = b; bytes = refl; end = sym (add-zero at) }
+    by_start (Ok (Some r)) q go =
         record {
           behind = (go r).behind;
           bytes =

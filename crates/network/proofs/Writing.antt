@@ -17,14 +17,16 @@ use Rattle.network.specs.declared.Link.{Link}
 use Rattle.network.specs.declared.Network.{Network}
 use Rattle.network.specs.declared.Record.{Record}
 use Rattle.network.specs.declared.Record.TheVariants.{Switch as OfSwitch, Host as OfHost, Link as OfLink}
-use Rattle.network.specs.declared.Answer.{Answer}
-use Rattle.network.specs.declared.Answer.TheVariants.{Refused, Ends}
+use Rattle.std.specs.Prelude.{Result, Ok, Err}
+use Rattle.refusal.specs.Number.{number_of, told}
+use Rattle.refusal.specs.declared.Refusal.{Refusal}
+use Rattle.refusal.specs.declared.Refusal.TheVariants.{NoRoomToWrite}
 use Rattle.network.specs.Network.{no_switch, no_host, no_link, up_to, switches_of, hosts_of, links_of, records, add, empty_network}
 use Rattle.network.specs.Format.{encode, kind_of, length_of, body_of}
 use Rattle.network.specs.Checks.{record_fault, records_fault, network_fault}
-use Rattle.network.specs.Describe.{told, encode_all, image, write_fault, written}
+use Rattle.network.specs.Describe.{end_values, encode_all, image, write_fault, written}
 use Rattle.network.proofs.Lists.{up_to_long, up_to_at}
-use Rattle.network.proofs.Faults.{told_refused, fault_here, fault_behind}
+use Rattle.network.proofs.Faults.{some, told_refused, fault_here, fault_behind}
 
 -- within a list the default doesn't matter
 get_d_any : {A : Type 0} (l : List A) (i : ℕ) (d e : A) → i < length l → get_or l i d ≡ get_or l i e
@@ -151,8 +153,9 @@ module _ {n seen : Network} {i : ℕ} (v : Checking n seen i) where
   checking_ends h = sym (v.rest ∙ rw (drop_of_length-le (records n) {i = i} h))
 
   module _ (h : i < length (records n)) {r : Record} (e : r ≡ get_or (records n) i (OfSwitch no_switch)) where
-    pub checking_fault : (record_fault seen r ≡ 0 → ⊥) → record_fault seen r ≡ network_fault n
-    checking_fault f = sym (v.rest ∙ rw (here n h e) (fault_here seen r (drop (i + 1) (records n)) f))
+    pub checking_fault : (f : Refusal) → number_of f ≡ record_fault seen r → number_of f ≡ network_fault n
+    checking_fault f p =
+        p ∙ sym (v.rest ∙ rw (here n h e) (fault_here seen r (drop (i + 1) (records n)) (λ z. some f (p ∙ z))))
 
     pub checking_next : record_fault seen r ≡ 0 → {more : Network} → more ≡ add seen r → Checking n more (i + 1)
     checking_next f q = record { within = omega arith; rest = v.rest ∙ rw (here n h e, q) (fault_behind seen r (drop (i + 1) (records n)) f) }
@@ -218,25 +221,25 @@ filled n o room p q =
     q ∙ rw (p, put_fits o 0 (1 ∷ []) (omega arith)) (put_put o 0 (1 ∷ []) (encode_all (records n)) (omega arith))
 
 -- the writer's answer and what it leaves in the output
-abbrev Writes : Network → List ℕ → Answer → List ℕ → Type 0
-Writes n o answer out = (told answer ≡ answered (write_fault n (length o)) (length (image n) ∷ [])) × (out ≡ written n o)
+abbrev Writes : Network → List ℕ → Result ℕ Refusal → List ℕ → Type 0
+Writes n o answer out = (told end_values answer ≡ answered (write_fault n (length o)) (length (image n) ∷ [])) × (out ≡ written n o)
 
 module _ (n : Network) (o : List ℕ) where
-  refused_unchanged : {number : ℕ} → (number ≡ 0 → ⊥) → write_fault n (length o) ≡ number → Writes n o (Refused number) o
+  refused_unchanged : (r : Refusal) → write_fault n (length o) ≡ number_of r → Writes n o (Err r) o
   unfolding written
-  refused_unchanged {number} h e = (rw e (told_refused number (length (image n) ∷ []) h), rw (e, ne_eqb number 0 h))
+  refused_unchanged r e = (told_refused end_values r (length (image n) ∷ []) e, rw (e, ne_eqb (number_of r) 0 (some r)))
 
-  pub faulty : {number : ℕ} → number ≡ network_fault n → (number ≡ 0 → ⊥) → Writes n o (Refused number) o
+  pub faulty : (r : Refusal) → number_of r ≡ network_fault n → Writes n o (Err r) o
   unfolding write_fault
-  faulty {number} e h = refused_unchanged h (rw (← e, ne_eqb number 0 h))
+  faulty r e = refused_unchanged r (rw (← e, ne_eqb (number_of r) 0 (some r)))
 
   module _ (fine : network_fault n ≡ 0) where
-    pub no_room : length o < length (image n) → Writes n o (Refused 27) o
+    pub no_room : length o < length (image n) → Writes n o (Err NoRoomToWrite) o
     unfolding write_fault
-    no_room h = refused_unchanged (λ z. omega arith) (rw (eq-eqb (network_fault n) 0 fine, lt-ltb (length o) (length (image n)) h))
+    no_room h = refused_unchanged NoRoomToWrite (rw (eq-eqb (network_fault n) 0 fine, lt-ltb (length o) (length (image n)) h))
 
-    pub done : length (image n) ≤ length o → {size : ℕ} {out : List ℕ} → size ≡ length (image n) → out ≡ put o 0 (image n) → Writes n o (Ends size) out
-    unfolding write_fault written told
+    pub done : length (image n) ≤ length o → {size : ℕ} {out : List ℕ} → size ≡ length (image n) → out ≡ put o 0 (image n) → Writes n o (Ok size) out
+    unfolding write_fault written
     done h e p =
         let none : write_fault n (length o) ≡ 0 = rw (eq-eqb (network_fault n) 0 fine, le-ltb (length o) (length (image n)) h) in
         (rw (none, e), rw none p)

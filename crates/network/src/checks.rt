@@ -54,6 +54,7 @@ fn is_on_a_link(n: &Network, at: u64) -> bool
 }
 
 // The port has a cable.
+#[tactic(auto, unfolding(crate::specs::Checks::taken, crate::specs::Network::hosts_of, crate::specs::Network::links_of))]
 fn is_taken(n: &Network, p: Port) -> bool
     ensures { result ≡ taken n.now p }
 {
@@ -62,6 +63,7 @@ fn is_taken(n: &Network, p: Port) -> bool
 }
 
 // There is such a switch, and it has such a port.
+#[tactic(auto, unfolding(crate::specs::Checks::stands))]
 fn stands(n: &Network, p: Port) -> bool
     ensures { result ≡ stands n.now p }
 {
@@ -69,6 +71,7 @@ fn stands(n: &Network, p: Port) -> bool
 }
 
 // There is a last one of so many, and the port is not above it.
+#[tactic(auto, unfolding(crate::specs::Checks::not_above))]
 fn is_not_above(count: u8, last: Port, p: Port) -> bool
     ensures { result ≡ not_above count last p }
 {
@@ -76,6 +79,7 @@ fn is_not_above(count: u8, last: Port, p: Port) -> bool
 }
 
 // 25: there are as many of its kind as there may be.
+#[tactic(auto, unfolding(crate::specs::Checks::too_many))]
 fn are_too_many(n: &Network, r: Record) -> bool
     ensures { result ≡ too_many n.now r }
 {
@@ -87,6 +91,7 @@ fn are_too_many(n: &Network, r: Record) -> bool
 }
 
 // 26: the kind falls, or the record doesn't ascend.
+#[tactic(auto, unfolding(crate::specs::Checks::out_of_order))]
 fn is_out_of_order(n: &Network, r: Record) -> bool
     ensures { result ≡ out_of_order n.now r }
 {
@@ -104,6 +109,7 @@ fn is_out_of_order(n: &Network, r: Record) -> bool
 }
 
 // A switch's numbers are out of range.
+#[tactic(auto, unfolding(crate::specs::Checks::switch_out))]
 fn is_switch_out(s: Switch) -> bool
     ensures { result ≡ switch_out s }
 {
@@ -111,6 +117,7 @@ fn is_switch_out(s: Switch) -> bool
 }
 
 // 22: number out of range, no such switch or port.
+#[tactic(auto, unfolding(crate::specs::Checks::out_of_range))]
 fn is_out_of_range(n: &Network, r: Record) -> bool
     ensures { result ≡ out_of_range n.now r }
 {
@@ -122,6 +129,7 @@ fn is_out_of_range(n: &Network, r: Record) -> bool
 }
 
 // 23: port already taken.
+#[tactic(auto, unfolding(crate::specs::Checks::port_taken))]
 fn is_port_taken(n: &Network, r: Record) -> bool
     ensures { result ≡ port_taken n.now r }
 {
@@ -133,6 +141,7 @@ fn is_port_taken(n: &Network, r: Record) -> bool
 }
 
 // An address is zero, group, or that of a host of the network.
+#[tactic(auto, unfolding(crate::specs::Checks::address_out, crate::specs::Network::hosts_of))]
 fn is_address_out(n: &Network, address: u64) -> bool
     ensures { result ≡ address_out n.now address }
 {
@@ -140,6 +149,7 @@ fn is_address_out(n: &Network, address: u64) -> bool
 }
 
 // 24: address zero, group, or twice.
+#[tactic(auto, unfolding(crate::specs::Checks::bad_address))]
 fn is_bad_address(n: &Network, r: Record) -> bool
     ensures { result ≡ bad_address n.now r }
 {
@@ -150,6 +160,7 @@ fn is_bad_address(n: &Network, r: Record) -> bool
 }
 
 // Why a record is refused behind the network of those before it, where it is.
+#[tactic(auto, unfolding(crate::specs::Checks::record_fault))]
 fn check(n: &Network, r: Record) -> Result<(), Refusal>
     ensures { refused_as result ≡ record_fault n.now r }
 {
@@ -162,6 +173,7 @@ fn check(n: &Network, r: Record) -> Result<(), Refusal>
 
 // Takes one record more into the network, unless it is refused: reader and writer go through
 // their records by this.
+#[tactic(auto, unfolding(crate::specs::Network::add))]
 pub(crate) fn take_in(n: &mut Network, r: Record) -> Result<(), Refusal>
     ensures number { refused_as result ≡ record_fault n.old r }
     ensures network { IfOk result (λ u. n.new ≡ add n.old r) }

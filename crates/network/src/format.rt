@@ -34,6 +34,7 @@ const LAST_EVENT: u8 = 6;
 
 impl Kind {
     // The kind that a byte names, if it names one.
+    #[tactic(auto, unfolding(crate::specs::Format::length_of))]
     fn of(byte: u8) -> Result<Kind, Refusal>
         ensures known { IfOk result (λ kind. byte_of kind ≡ byte) }
         ensures unknown { IfErr result (λ r. (r ≡ Refusal.BadRecord) × (length_of byte ≡ 0)) }
@@ -47,8 +48,10 @@ impl Kind {
     }
 
     // What the length of its records says.
+    #[tactic(auto, unfolding(crate::specs::Format::length_of))]
     fn length(self) -> u8
-        ensures { result ≡ length_of (byte_of self) }
+        ensures value { result ≡ length_of (byte_of self) }
+        ensures least { 5 ≤ result }
     {
         match self {
             Kind::Switch => SWITCH_LENGTH,
@@ -58,6 +61,7 @@ impl Kind {
     }
 }
 
+#[tactic(auto, unfolding(crate::specs::Format::is_event))]
 fn is_event(kind: u8) -> bool
     ensures { result ≡ is_event kind }
 {
@@ -75,6 +79,7 @@ fn port_at(body: &[u8], at: usize) -> Port
 }
 
 // The record of a kind that a body starts with.
+#[tactic(auto, unfolding(crate::specs::Format::record_of))]
 fn record_of(kind: Kind, body: &[u8]) -> Record
     requires { 4 ≤ length body.now }
     ensures { result ≡ record_of (byte_of kind) body.now }
@@ -97,6 +102,7 @@ fn record_of(kind: Kind, body: &[u8]) -> Record
 }
 
 // The bytes are cut short before a kind byte, or their length is 0.
+#[tactic(auto, unfolding(crate::specs::Format::headless))]
 fn is_headless(bytes: &[u8]) -> bool
     ensures { result ≡ headless bytes.now }
 {
@@ -104,6 +110,7 @@ fn is_headless(bytes: &[u8]) -> bool
 }
 
 // What the input starts with from a place on: a record, or the description's end.
+#[tactic(auto, unfolding(crate::specs::Format::start_of, crate::specs::Format::headless, crate::specs::Format::misfit))]
 pub(crate) fn start_at(input: &[u8], at: usize) -> Result<Option<Record>, Refusal>
     requires { at ≤ length input.now }
     ensures { result ≡ start_of (drop at input.now) }
@@ -118,12 +125,13 @@ pub(crate) fn start_at(input: &[u8], at: usize) -> Result<Option<Record>, Refusa
     }
     let kind = Kind::of(bytes[2])?;
     let long = kind.length() as usize;
-    let other = wire::number_at(bytes, 0, 2) != long as u64;
-    Refusal::BadRecord.when(other || bytes.len() < long + 2)?;
+    Refusal::BadRecord.when(wire::number_at(bytes, 0, 2) != long as u64)?;
+    Refusal::BadRecord.when(bytes.len() < long + 2)?;
     Ok(Some(record_of(kind, &bytes[3..])))
 }
 
 // How many bytes a record takes.
+#[tactic(auto, unfolding(crate::specs::Format::encode, crate::specs::Format::kind_of, crate::specs::Format::body_of, crate::specs::Format::length_of))]
 pub(crate) fn size(r: Record) -> usize
     ensures { result ≡ length (encode r) }
 {
@@ -134,6 +142,7 @@ pub(crate) fn size(r: Record) -> usize
     }
 }
 
+#[tactic(auto, unfolding(crate::specs::Format::encode, crate::specs::Format::kind_of, crate::specs::Format::body_of, crate::specs::Format::length_of))]
 fn switch_bytes(s: Switch) -> [u8; SWITCH_SIZE]
     ensures { result ≡ encode (Record.Switch s) }
 {
@@ -141,6 +150,7 @@ fn switch_bytes(s: Switch) -> [u8; SWITCH_SIZE]
     [0, SWITCH_LENGTH, Kind::Switch as u8, s.ports, s.limit, a, b, c, d]
 }
 
+#[tactic(auto, unfolding(crate::specs::Format::encode, crate::specs::Format::kind_of, crate::specs::Format::body_of, crate::specs::Format::length_of))]
 fn host_bytes(h: Host) -> [u8; HOST_SIZE]
     ensures { result ≡ encode (Record.Host h) }
 {
@@ -149,6 +159,7 @@ fn host_bytes(h: Host) -> [u8; HOST_SIZE]
     [0, HOST_LENGTH, Kind::Host as u8, p.switch, p.number, a, b, c, d, e, f]
 }
 
+#[tactic(auto, unfolding(crate::specs::Format::encode, crate::specs::Format::kind_of, crate::specs::Format::body_of, crate::specs::Format::length_of))]
 fn link_bytes(l: Link) -> [u8; LINK_SIZE]
     ensures { result ≡ encode (Record.Link l) }
 {

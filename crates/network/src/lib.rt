@@ -161,6 +161,7 @@ impl Network {
 }
 
 // The input is empty, or its first byte is not the version.
+#[tactic(auto, unfolding(crate::specs::Describe::versionless))]
 fn is_versionless(input: &[u8]) -> bool
     ensures { result ≡ versionless input.now }
 {
