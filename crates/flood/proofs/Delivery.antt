@@ -6,22 +6,15 @@
 use Prim.Native.Nat.{ℕ, ◌+◌, ◌≤◌, ◌<◌}
 use mathlib.Core.Path.{◌≡◌, refl, sym, ◌∙◌}
 use mathlib.Core.Logic.{◌≢◌, ◌⊎◌, inl, inr, ⊎_elim, by_cases}
-use mathlib.Core.Bool.{Bool, true, false, ◌||◌, true≢false}
+use mathlib.Core.Bool.{Bool, true, false, ◌||◌}
 use native.Mathlib.Decide.{ℕ_discrete}
 use native.Mathlib.Omega.{arith}
 use lib.Dec.{eqb}
-use borrow.Author.Tests.{eq-eqb, ne_eqb}
+use borrow.Author.Tests.{both_ways, eq-eqb, ne_eqb}
+use Rattle.std.proofs.lemmas.Bool.{cases_Bool, true_from_ne_false}
 use Rattle.flood.specs.Mesh.{Mesh, Joined, here, over}
 use Rattle.flood.specs.Delivery.{Moment, Quiet, Start, SendsOn, Begins, Passes, Flooding, begun, first, passed, seen, LimitsSuffice, Delivers}
 use Rattle.flood.proofs.Count.{count, count_more, count_lt}
-
--- a test is true or false, and not both
-sure : (b : Bool) → (b ≡ true) ⊎ (b ≡ false)
-sure true = inl refl
-sure false = inr refl
-
-not_both : {b : Bool} → b ≡ true → b ≡ false → ⊥
-not_both h d = true≢false (sym h ∙ d)
 
 -- those that a test names, and s: s is among them, and any other as before
 added : (on : ℕ → Bool) (s : ℕ) → (eqb s s || on s) ≡ true
@@ -49,7 +42,7 @@ module _ {M : Mesh} (S : Start M) (on : ℕ → Bool) (x : Moment M) where
 
 module _ {M : Mesh} {S : Start M} {on : ℕ → Bool} {x : Moment M} (i : Spread S on x) where
   old_only_on : LimitsSuffice S → (e : M.End) (k : ℕ) → x.flies e k → M.limit (M.at e) ≤ k → on (M.at e) ≡ true
-  old_only_on enough e k w old = ⊎_elim (λ h. h) (λ h. absurd (too_young h)) (sure (on (M.at e)))
+  old_only_on enough e k w old = true_from_ne_false _ too_young
     where
       inside : M.at e < M.size
       inside = M.inside e (i.wired e k w).0 (i.wired e k w).1
@@ -60,7 +53,7 @@ module _ {M : Mesh} {S : Start M} {on : ℕ → Bool} {x : Moment M} (i : Spread
   module _ {y : Moment M} (p : Passes x y) where
     passes_keeps : Spread S on y
     passes_keeps = record {
-      linked = λ e k w t. link (p.only e k w) t (sure (on t));
+      linked = λ e k w t. link (p.only e k w) t (cases_Bool (on t));
       wired = λ e k w. i.wired e k (p.only e k w);
       young = λ e k w. i.young e k (p.only e k w);
       once = λ e. rw (p.silent e) (i.once e);
@@ -94,7 +87,7 @@ module _ {M : Mesh} {S : Start M} {on : ℕ → Bool} {x : Moment M} (i : Spread
       young = λ e j w. ⊎_elim (λ v. omega (arith, i.young e j v, grows)) (λ v. omega (arith, v.1, young, grows)) (f.only e j w);
       once = λ e. by_cases (ℕ_discrete (M.at e) s) (λ d. omega (arith, f.at_most e d, unsent e d)) (λ d. rw (f.silent e d) (i.once e));
       fresh = λ e h. by_cases (ℕ_discrete (M.at e) s)
-          (λ d. absurd (not_both own (rw d at h)))
+          (λ d. absurd (both_ways _ (rw d at h) own))
           (λ d. f.silent e d ∙ i.fresh e (sym (same (M.at e) d) ∙ h));
       given = λ e h due. by_cases (ℕ_discrete (M.at e) s)
           (λ d. omega (arith, f.due e d due, unsent e d))
@@ -126,7 +119,7 @@ module _ {M : Mesh} {S : Start M} where
     young = λ e k w. absurd (b.quiet e k w);
     once = λ e. omega (arith, b.unsent e);
     fresh = λ e h. b.unsent e;
-    given = λ e h d. absurd (not_both h refl);
+    given = λ e h d. absurd (both_ways _ refl h);
   }
 
   pub spread : {x : Moment M} (v : Flooding S x) → Spread S (seen v) x
@@ -141,7 +134,7 @@ module _ {M : Mesh} {S : Start M} where
 
   onward : {x : Moment M} → LimitsSuffice S → (v : Flooding S x) → Onward S (seen v) x
   unfolding seen
-  onward enough (begun b) = sends_onward (before b) b.sends (eq-eqb S.switch S.switch refl) (λ t d. ne_eqb t S.switch d) (λ e g n c. absurd n) (λ e g h c. absurd (not_both h refl))
+  onward enough (begun b) = sends_onward (before b) b.sends (eq-eqb S.switch S.switch refl) (λ t d. ne_eqb t S.switch d) (λ e g n c. absurd n) (λ e g h c. absurd (both_ways _ refl h))
   onward enough (first {e} {k} v f) = sends_onward (spread v) f.sends (added (seen v) (M.at e)) (beside (seen v) (M.at e)) came_from (onward enough v)
     where
       -- over the cable that is spared the copy came
