@@ -9,9 +9,10 @@ use native.Mathlib.Decide.{dec_lt}
 use native.Mathlib.Omega.{arith}
 use lib.ListN.{get_or, length, set}
 use lib.Seq.{ext_get_or, set-get_or}
+use Rattle.std.specs.Prelude.{Ok, Option}
 use Rattle.wire.specs.Address.{Source}
 use Rattle.rules.specs.declared.Arrival.{Arrival}
-use Rattle.rules.specs.declared.Sending.{Sending}
+use Rattle.rules.specs.declared.Send.{Send}
 use Rattle.rules.specs.declared.Setup.{Setup}
 use Rattle.rules.specs.Mask.{names}
 use Rattle.rules.specs.Verdict.{sent_by}
@@ -37,10 +38,10 @@ use Rattle.event.specs.declared.Presented.{Presented}
 use Rattle.event.specs.declared.Setting.{Setting}
 use Rattle.event.specs.Event.{address_of}
 use Rattle.turn.specs.declared.Report.{Report}
-use Rattle.turn.specs.declared.Answer.{Answer}
-use Rattle.turn.specs.declared.Answer.TheVariants.{Stepped, Linked}
+use Rattle.turn.specs.declared.Done.{Done}
+use Rattle.turn.specs.declared.Done.TheVariants.{Stepped, Linked}
 use Rattle.turn.specs.Send.{Adds, Outbox, Reaches, new_copies, nothing_sent, send_out}
-use Rattle.turn.specs.Turn.{Answers, CanTurn, Laid, Small, Turn, Turns, come, copy_arrival, copy_at, end_of, gone, head_of, host_arrival, host_of, is_up, own_refusal, port_to, presents, sets, spared_by, steps, takes, told, turn_of}
+use Rattle.turn.specs.Turn.{Answer, Answers, CanTurn, Laid, Small, Turn, Turns, come, copy_arrival, copy_at, end_of, gone, head_of, host_arrival, host_of, is_up, own_refusal, port_to, presents, sets, spared_by, steps, takes, told, turn_of}
 use Rattle.turn.specs.Fits.{CopyFits, SeatFits}
 use Rattle.turn.proofs.LawsOfAnswer.{answer_apart}
 use Rattle.turn.proofs.LawsOfSending as sending
@@ -141,11 +142,11 @@ module _ (n : Network) (fine : network_fault n ≡ 0) where
 
 -- ---- What a turn does, whatever the network
 
-same_small : {q r : Report} → ◌≡◌ {A = Answer} (Stepped q) (Stepped r) → Small q → Small r
+same_small : {q r : Report} → ◌≡◌ {A = Done} (Stepped q) (Stepped r) → Small q → Small r
 same_small {q} {r} e v = let same : q ≡ r = cc in subst Small same v
 
-linked : {cut : ℕ} {r : Report} → ◌≡◌ {A = Answer} (Linked cut) (Stepped r) → ⊥
-linked e = let z : ◌≡◌ {A = ℕ} 0 1 = cc in omega arith
+linked : {cut : ℕ} {r : Report} → ◌≡◌ {A = Done} (Linked cut) (Stepped r) → ⊥
+linked e = cc
 
 module _ (n : Network) (up : List Bool) (s : Seat) (flying : List Copy) where
   -- the head's setup stays
@@ -156,7 +157,7 @@ module _ (n : Network) (up : List Bool) (s : Seat) (flying : List Copy) where
   turn_setup (Link l) = refl
 
   -- an event that is let pass is answered, and not refused
-  pub turn_accepts : (e : Event) → Answers e (turn_of n up s flying e).answer
+  pub turn_accepts : (e : Event) → Answers e (Ok (turn_of n up s flying e).done)
   unfolding turn_of presents takes sets steps
   turn_accepts (Present p) = (_, refl)
   turn_accepts (Take place) = (_, refl)
@@ -175,7 +176,7 @@ module _ (n : Network) (up : List Bool) (s : Seat) (flying : List Copy) where
 
   -- those in flight and those that come are those then in flight and those that went
   pub turn_count : (e : Event) → own_refusal n (length flying) e ≡ 0
-      → length flying + come (turn_of n up s flying e).answer ≡ length (turn_of n up s flying e).flying + gone e (turn_of n up s flying e).answer
+      → length flying + come (Ok (turn_of n up s flying e).done) ≡ length (turn_of n up s flying e).flying + gone e (Ok (turn_of n up s flying e).done)
   unfolding turn_of presents takes sets steps
   turn_count (Present p) free = none_gone (count_outbox n _ _ _ flying)
     where
@@ -192,7 +193,7 @@ module _ (n : Network) (up : List Bool) (s : Seat) (flying : List Copy) where
       by_state false = omega (arith, fewer l.link flying)
 
   -- a step's report is small
-  pub turn_small : (e : Event) (r : Report) → (turn_of n up s flying e).answer ≡ Stepped r → Small r
+  pub turn_small : (e : Event) (r : Report) → (turn_of n up s flying e).done ≡ Stepped r → Small r
   unfolding turn_of presents takes sets steps
   turn_small (Present p) r e = same_small e (small_report n _ _ _ flying)
   turn_small (Take place) r e = same_small e (small_report n _ _ _ (without place flying))
@@ -200,13 +201,13 @@ module _ (n : Network) (up : List Bool) (s : Seat) (flying : List Copy) where
 
   -- a link set to the state that it has
   pub already_so : (l : Setting) → All (CopyFits n up) flying → get_or up l.link false ≡ is_up l.state
-      → turn_of n up s flying (Link l) ≡ record { up = up; seat = s; flying = flying; answer = Linked 0 }
+      → turn_of n up s flying (Link l) ≡ record { up = up; seat = s; flying = flying; done = Linked 0 }
   unfolding turn_of sets
   already_so l fit e =
       let states : set up l.link (is_up l.state) ≡ up = ap (set up l.link) (sym e) ∙ set-get_or up l.link false in
       let copies : spared_by (is_up l.state) l.link flying ≡ flying = by_state (is_up l.state) e in
-      (λ i. record { up = states i; seat = s; flying = copies i; answer = Linked (length flying - length (copies i)) })
-      ∙ ap (λ cut. record { up = up; seat = s; flying = flying; answer = Linked cut }) (omega arith)
+      (λ i. record { up = states i; seat = s; flying = copies i; done = Linked (length flying - length (copies i)) })
+      ∙ ap (λ cut. record { up = up; seat = s; flying = flying; done = Linked cut }) (omega arith)
     where
       by_state : (b : Bool) → get_or up l.link false ≡ b → spared_by b l.link flying ≡ flying
       by_state true live = refl
@@ -214,7 +215,7 @@ module _ (n : Network) (up : List Bool) (s : Seat) (flying : List Copy) where
 
 -- ---- What goes out
 
-module _ (plug : ℕ → Plug) (a : Arrival) (g : Sending) where
+module _ (plug : ℕ → Plug) (a : Arrival) (g : Option Send) where
   -- the copies in flight are those before, followed by as many of the new ones as there was room for: these are placed, the others lost
   pub sent_list : (x : Outbox) → Adds (new_copies plug a g) x (send_out plug a g x)
   sent_list = sending.adds_out plug a g
@@ -229,18 +230,18 @@ module _ (plug : ℕ → Plug) (a : Arrival) (g : Sending) where
 pub told_apart : (a b : Answer) → told a ≡ told b → a ≡ b
 told_apart = answer_apart
 
-module _ {t : Turn} {up₁ up₂ : List Bool} {s₁ s₂ : Seat} {words₁ words₂ : List (List ℕ)} {n₁ n₂ : ℕ} {a₁ a₂ : Answer} (front before : List (List ℕ)) where
+module _ {t : Turn} {up₁ up₂ : List Bool} {s₁ s₂ : Seat} {words₁ words₂ : List (List ℕ)} {n₁ n₂ : ℕ} {a₁ a₂ : Done} (front before : List (List ℕ)) where
   -- so a turn has one outcome, with all that the array then holds
   pub one_outcome : Turns t up₁ s₁ words₁ n₁ a₁ → Turns t up₂ s₂ words₂ n₂ a₂ → Laid front before n₁ words₁ → Laid front before n₂ words₂
       → (up₁ ≡ up₂) × (s₁ ≡ s₂) × (words₁ ≡ words₂) × (n₁ ≡ n₂) × (a₁ ≡ a₂)
   one_outcome x y v w =
       let same : n₁ ≡ n₂ = sym (long x) ∙ ap length (x.copies ∙ sym y.copies) ∙ long y in
-      (x.up ∙ sym y.up, x.seat ∙ sym y.seat, ext_get_or [] words₁ words₂ (v.long ∙ sym w.long) (λ i _. at same i), same, x.answer ∙ sym y.answer)
+      (x.up ∙ sym y.up, x.seat ∙ sym y.seat, ext_get_or [] words₁ words₂ (v.long ∙ sym w.long) (λ i _. at same i), same, x.done ∙ sym y.done)
     where
-      long : {up : List Bool} {s : Seat} {words : List (List ℕ)} {n : ℕ} {a : Answer} → Turns t up s words n a → length (copies_in n words) ≡ n
+      long : {up : List Bool} {s : Seat} {words : List (List ℕ)} {n : ℕ} {a : Done} → Turns t up s words n a → length (copies_in n words) ≡ n
       long {words = words} {n = n} z = copies_length n words (omega (arith, z.whole, z.few))
 
-      carried : {up : List Bool} {s : Seat} {words : List (List ℕ)} {n : ℕ} {a : Answer} → Turns t up s words n a → (i : ℕ) → i < n → flight.copy_at words i ≡ copy_at t.flying i
+      carried : {up : List Bool} {s : Seat} {words : List (List ℕ)} {n : ℕ} {a : Done} → Turns t up s words n a → (i : ℕ) → i < n → flight.copy_at words i ≡ copy_at t.flying i
       carried {words = words} {n = n} z i h = sym (copy_at_is n i words h) ∙ ap (λ cs. copy_at cs i) z.copies
 
       at : n₁ ≡ n₂ → (i : ℕ) → get_or words₁ i [] ≡ get_or words₂ i []

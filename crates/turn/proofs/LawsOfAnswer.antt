@@ -2,18 +2,17 @@
 use mathlib.Core.Path.{◌≡◌, ap}
 use mathlib.Core.Bool.{false}
 use mathlib.Core.List.{◌∷◌}
-use Rattle.refusal.specs.Refusal.{Told}
+use Rattle.refusal.specs.OneOutcome.{TellsApart}
+use Rattle.refusal.proofs.Told.{told_apart}
 use Rattle.frame.proofs.Told.{bit_apart}
 use Rattle.rules.specs.Verdict.{verdict_values}
 use Rattle.rules.specs.declared.Report as rules
 use Rattle.rules.specs.declared.Verdict.{Verdict}
-use Rattle.head.specs.declared.Answer as head
-use Rattle.head.specs.declared.Answer.TheVariants.{Done}
-use Rattle.head.proofs.Laws.{told_apart}
+use Rattle.head.proofs.Laws as head
 use Rattle.turn.specs.declared.Report.{Report}
-use Rattle.turn.specs.declared.Answer.{Answer}
-use Rattle.turn.specs.declared.Answer.TheVariants.{Refused, Stepped, Linked}
-use Rattle.turn.specs.Turn.{report_values, told}
+use Rattle.turn.specs.declared.Done.{Done}
+use Rattle.turn.specs.declared.Done.TheVariants.{Stepped, Linked}
+use Rattle.turn.specs.Turn.{done_values, report_values, told}
 
 -- a step's report of a verdict alone
 plain : Verdict → rules.Report
@@ -21,10 +20,7 @@ plain v = record { verdict = v; full = false; overwrote = false }
 
 verdict_apart : (v u : Verdict) → verdict_values v ≡ verdict_values u → v ≡ u
 unfolding plain
-verdict_apart v u e =
-    let same : ◌≡◌ {A = head.Answer} (Done (plain v)) (Done (plain u)) = told_apart (Done (plain v)) (Done (plain u)) (ap (λ vs. record { number = 0; values = 0 ∷ 0 ∷ vs }) e) in
-    let reports : plain v ≡ plain u = cc in
-    ap (λ (r : rules.Report). r.verdict) reports
+verdict_apart v u e = ap (λ (r : rules.Report). r.verdict) (head.report_apart (plain v) (plain u) (ap (λ vs. 0 ∷ 0 ∷ vs) e))
 
 report_apart : (r q : Report) → report_values r ≡ report_values q → r ≡ q
 report_apart r q e =
@@ -51,13 +47,11 @@ report_apart r q e =
       overwrote = overwrote i;
     }
 
-pub answer_apart : (a b : Answer) → told a ≡ told b → a ≡ b
-answer_apart (Refused n) (Refused m) e = ap (λ (t : Told). Refused t.number) e
-answer_apart (Stepped r) (Stepped q) e = ap Stepped (report_apart r q (ap (λ (t : Told). t.values) e))
-answer_apart (Linked k) (Linked l) e = let v = ap (λ (t : Told). t.values) e in cc
-answer_apart (Refused n) (Stepped q) e = let v = ap (λ (t : Told). t.values) e in cc
-answer_apart (Refused n) (Linked k) e = let v = ap (λ (t : Told). t.values) e in cc
-answer_apart (Stepped r) (Refused m) e = let v = ap (λ (t : Told). t.values) e in cc
-answer_apart (Stepped r) (Linked k) e = let v = ap (λ (t : Told). t.values) e in cc
-answer_apart (Linked k) (Refused m) e = let v = ap (λ (t : Told). t.values) e in cc
-answer_apart (Linked k) (Stepped q) e = let v = ap (λ (t : Told). t.values) e in cc
+done_apart : TellsApart done_values
+done_apart (Stepped r) (Stepped q) e = ap Stepped (report_apart r q e)
+done_apart (Linked k) (Linked l) e = cc
+done_apart (Stepped r) (Linked k) e = cc
+done_apart (Linked k) (Stepped q) e = cc
+
+pub answer_apart : TellsApart told
+answer_apart = told_apart done_apart

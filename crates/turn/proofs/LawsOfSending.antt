@@ -14,11 +14,10 @@ use lib.ListN.{length, take, drop, length-append, length-take}
 use lib.Pow.{pow-lt}
 use lib.Seq.{take-nil, drop-nil}
 use borrow.Author.Tests.{eq-eqb, eqb-true}
+use Rattle.std.specs.Prelude.{Option, Some, None}
 use Rattle.frame.specs.declared.Header.{Header}
 use Rattle.rules.specs.declared.Arrival.{Arrival}
 use Rattle.rules.specs.declared.Send.{Send}
-use Rattle.rules.specs.declared.Sending.{Sending}
-use Rattle.rules.specs.declared.Sending.TheVariants.{Nothing, Copies}
 use Rattle.rules.specs.Mask.{names}
 use Rattle.rules.specs.Verdict.{sent_by}
 use Rattle.rules.proofs.Bits.{names_none}
@@ -110,10 +109,10 @@ module _ (a : Arrival) (h : Header) where
     adds_from (suc n) p x = adds_then (adds_at p x) (adds_from n (p + 1) (send_at plug a mask h p x))
 
 -- the copies in flight are those before, followed by as many new ones as there was room for
-pub adds_out : (plug : ℕ → Plug) (a : Arrival) (g : Sending) (x : Outbox) → Adds (new_copies plug a g) x (send_out plug a g x)
+pub adds_out : (plug : ℕ → Plug) (a : Arrival) (g : Option Send) (x : Outbox) → Adds (new_copies plug a g) x (send_out plug a g x)
 unfolding send_out new_copies
-adds_out plug a Nothing x = adds_none x
-adds_out plug a (Copies s) x = adds_from a s.header plug s.mask most_ports 0 x
+adds_out plug a None x = adds_none x
+adds_out plug a (Some s) x = adds_from a s.header plug s.mask most_ports 0 x
 
 -- ---- The new copies
 
@@ -162,15 +161,15 @@ module _ (plug : ℕ → Plug) (a : Arrival) (mask : ℕ) (h : Header) where
   few_from (suc n) p =
       omega (arith, length-append (cond (names mask p) (copy_on (plug p) a h) []) (copies_from plug a mask h n (p + 1)), few_at p, few_from n (p + 1))
 
-pub new_few : (plug : ℕ → Plug) (a : Arrival) (g : Sending) → length (new_copies plug a g) ≤ most_ports
+pub new_few : (plug : ℕ → Plug) (a : Arrival) (g : Option Send) → length (new_copies plug a g) ≤ most_ports
 unfolding new_copies
-new_few plug a Nothing = omega arith
-new_few plug a (Copies s) = few_from plug a s.mask s.header most_ports 0
+new_few plug a None = omega arith
+new_few plug a (Some s) = few_from plug a s.mask s.header most_ports 0
 
-pub new_for : (plug : ℕ → Plug) (a : Arrival) (g : Sending) (c : Copy) → Memᴰ c (new_copies plug a g) → (s : Send) × (g ≡ Copies s) × NewFor plug a s.mask s.header c
+pub new_for : (plug : ℕ → Plug) (a : Arrival) (g : Option Send) (c : Copy) → Memᴰ c (new_copies plug a g) → (s : Send) × (g ≡ Some s) × NewFor plug a s.mask s.header c
 unfolding new_copies
-new_for plug a Nothing c m = absurd (Memᴰ.not-nil m)
-new_for plug a (Copies s) c m = (s, refl, new_from plug a s.mask s.header most_ports 0 c m)
+new_for plug a None c m = absurd (Memᴰ.not-nil m)
+new_for plug a (Some s) c m = (s, refl, new_from plug a s.mask s.header most_ports 0 c m)
 
 -- ---- The hosts that received
 
@@ -260,7 +259,7 @@ module _ (plug : ℕ → Plug) (a : Arrival) (mask : ℕ) (h : Header) where
       below_from numbered n (p + 1) (send_at plug a mask h p x)
       (keeps_at (λ m. m < 2 ^ 32) p x less (λ i _ e. or_lt 32 x.received (2 ^ i) less (pow-lt (subst Numbered e (numbered p)))))
 
-module _ (plug : ℕ → Plug) (a : Arrival) (g : Sending) (flying : List Copy) where
+module _ (plug : ℕ → Plug) (a : Arrival) (g : Option Send) (flying : List Copy) where
   -- the bits that are set are those of the hosts whose ports the mask names
   pub heard_out : (i : ℕ) → (names (send_out plug a g (nothing_sent flying)).received i ≡ true) ↔ Reaches plug (sent_by g).mask i
   unfolding send_out
@@ -269,9 +268,9 @@ module _ (plug : ℕ → Plug) (a : Arrival) (g : Sending) (flying : List Copy) 
       none : (k : ℕ) → names 0 k ≡ true → ⊥
       none k e = true≢false (sym e ∙ names_none 0 0 k (omega arith) (omega arith))
 
-      by_sending : (g : Sending) → (names (send_out plug a g (nothing_sent flying)).received i ≡ true) ↔ Reaches plug (sent_by g).mask i
-      by_sending Nothing = ((λ heard. absurd (none i heard)), (λ r. absurd (none r.port r.named)))
-      by_sending (Copies s) = (
+      by_sending : (g : Option Send) → (names (send_out plug a g (nothing_sent flying)).received i ≡ true) ↔ Reaches plug (sent_by g).mask i
+      by_sending None = ((λ heard. absurd (none i heard)), (λ r. absurd (none r.port r.named)))
+      by_sending (Some s) = (
         (λ heard. ⊎_elim (λ old. absurd (none i old)) (λ (b : Between plug a s.mask s.header i 0 most_ports). record { port = b.port; below = omega (arith, b.less); named = b.named; plugged = b.plugged })
             (only_from plug a s.mask s.header i most_ports 0 (nothing_sent flying) heard)),
         (λ r. hears_from plug a s.mask s.header i most_ports 0 r.port (nothing_sent flying) (omega arith) (omega (arith, r.below)) r.named r.plugged),
@@ -282,15 +281,15 @@ module _ (plug : ℕ → Plug) (a : Arrival) (g : Sending) (flying : List Copy) 
   unfolding send_out ones ones_in
   ones_out = by_sending g
     where
-      by_sending : (g : Sending) → ones (send_out plug a g (nothing_sent flying)).received ≤ most_ports
-      by_sending Nothing = omega arith
-      by_sending (Copies s) = omega (arith, ones_from plug a s.mask s.header most_ports 0 (nothing_sent flying))
+      by_sending : (g : Option Send) → ones (send_out plug a g (nothing_sent flying)).received ≤ most_ports
+      by_sending None = omega arith
+      by_sending (Some s) = omega (arith, ones_from plug a s.mask s.header most_ports 0 (nothing_sent flying))
 
   -- each of them one of 32
   pub below_out : ((p : ℕ) → Numbered (plug p)) → (send_out plug a g (nothing_sent flying)).received < 2 ^ 32
   unfolding send_out
   below_out numbered = by_sending g
     where
-      by_sending : (g : Sending) → (send_out plug a g (nothing_sent flying)).received < 2 ^ 32
-      by_sending Nothing = omega arith
-      by_sending (Copies s) = below_from plug a s.mask s.header numbered most_ports 0 (nothing_sent flying) (omega arith)
+      by_sending : (g : Option Send) → (send_out plug a g (nothing_sent flying)).received < 2 ^ 32
+      by_sending None = omega arith
+      by_sending (Some s) = below_from plug a s.mask s.header numbered most_ports 0 (nothing_sent flying) (omega arith)

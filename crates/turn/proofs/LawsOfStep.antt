@@ -12,10 +12,10 @@ use lib.Dec.{eqb}
 use lib.ListN.{length, get_or, set, take, drop, length-append, length-take, length-drop, take-append-drop}
 use lib.Seq.{get_or-set_same, get_or-set_other, set_out}
 use borrow.Author.Tests.{eqb-false, ne_eqb}
+use Rattle.std.specs.Prelude.{Some}
 use Rattle.wire.specs.Address.{address_bound}
 use Rattle.rules.specs.declared.Arrival.{Arrival}
 use Rattle.rules.specs.declared.Send.{Send}
-use Rattle.rules.specs.declared.Sending.TheVariants.{Copies}
 use Rattle.rules.specs.Mask.{names}
 use Rattle.rules.specs.Words.{Arrives}
 use Rattle.rules.specs.Verdict.{sending_of}
@@ -111,7 +111,7 @@ module _ (n : Network) (fine : network_fault n ≡ 0) (up : List Bool) (k : ℕ)
   step_stays = step_formed s a fits.formed comes.arrives
 
   -- a new copy goes out on a live port, and so over a live link
-  new_fits : (c : Copy) (g : Send) → sending_of (step_of s a).report.verdict ≡ Copies g → NewFor (plug_of n k) a g.mask g.header c → CopyFits n up c
+  new_fits : (c : Copy) (g : Send) → sending_of (step_of s a).report.verdict ≡ Some g → NewFor (plug_of n k) a g.mask g.header c → CopyFits n up c
   unfolding plug_of
   new_fits c g e v =
       let may = may_send s a fits.formed comes.arrives comes.nonce g e in

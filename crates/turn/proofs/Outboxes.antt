@@ -10,11 +10,10 @@ use lib.Dec.{eqb, ltb}
 use lib.ListN.{length, get_or, length-set}
 use lib.Pow.{pow-lt}
 use borrow.Author.Tests.{lt-ltb, le-ltb, ltb-true}
+use Rattle.std.specs.Prelude.{Option, Some, None}
 use Rattle.frame.specs.declared.Header.{Header}
 use Rattle.rules.specs.declared.Arrival.{Arrival}
 use Rattle.rules.specs.declared.Send.{Send}
-use Rattle.rules.specs.declared.Sending.{Sending}
-use Rattle.rules.specs.declared.Sending.TheVariants.{Nothing, Copies}
 use Rattle.rules.specs.declared.Verdict.{Verdict}
 use Rattle.rules.specs.Mask.{names}
 use Rattle.rules.specs.Verdict.{sending_of}
@@ -183,16 +182,3 @@ module _ {plug : ℕ → Plug} {a : Arrival} {mask : ℕ} {h : Header} where
 
     pub reached_room : Reached plug a mask h whole words s port → Room words s most_ports
     reached_room v = record { whole = v.room.whole; few = v.room.few; sent = omega (arith, v.room.sent, v.count) }
-
--- ---- A verdict
-
-module _ (plug : ℕ → Plug) (a : Arrival) (v : Verdict) {sending : Sending} (x : Outbox) where
-  -- sends nothing
-  pub nothing_out : sending ≡ sending_of v → sending ≡ Nothing → x ≡ send_out plug a (sending_of v) x
-  unfolding send_out
-  nothing_out s e = rw (← s, e)
-
-  -- or copies
-  pub copies_out : {c : Send} {y : Outbox} → sending ≡ sending_of v → sending ≡ Copies c → y ≡ send_from plug a c.mask c.header most_ports 0 x → y ≡ send_out plug a (sending_of v) x
-  unfolding send_out
-  copies_out s e j = rw (← s, e) j

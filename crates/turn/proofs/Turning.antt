@@ -33,8 +33,8 @@ use Rattle.event.specs.declared.Presented.{Presented}
 use Rattle.event.specs.declared.Setting.{Setting}
 use Rattle.event.specs.Event.{address_of}
 use Rattle.turn.proofs.Writing.{laid_same}
-use Rattle.turn.specs.declared.Answer.{Answer}
-use Rattle.turn.specs.declared.Answer.TheVariants.{Stepped, Linked}
+use Rattle.turn.specs.declared.Done.{Done}
+use Rattle.turn.specs.declared.Done.TheVariants.{Stepped, Linked}
 use Rattle.turn.specs.declared.sending.Sent.{Sent}
 use Rattle.turn.specs.Send.{Outbox, Room, nothing_sent, outbox, send_out}
 use Rattle.turn.specs.Turn.{CanTake, CanTurn, Kept, Laid, Spares, Turn, Turns, copy_arrival, copy_at, host_arrival, host_of, is_up, no_link, outbox_of, own_causes, own_refusal, plug_of, port_to, presents, sets, spared_words_by, staying, step_report, steps, takes, to_zero, turn_of}
@@ -45,7 +45,7 @@ kept_long : {words : List (List ℕ)} {flying : ℕ} → Kept words flying → l
 kept_long {words} {flying} kept = copies_length flying words (omega (arith, kept.whole, kept.few))
 
 -- a turn by another name
-pub turns_as : {t t' : Turn} {up : List Bool} {s : Seat} {words : List (List ℕ)} {n : ℕ} {a : Answer} → t ≡ t' → Turns t up s words n a → Turns t' up s words n a
+pub turns_as : {t t' : Turn} {up : List Bool} {s : Seat} {words : List (List ℕ)} {n : ℕ} {a : Done} → t ≡ t' → Turns t up s words n a → Turns t' up s words n a
 turns_as {up = up} {s = s} {words = words} {n = n} {a = a} e v = subst (λ t. Turns t up s words n a) e v
 
 -- ---- A step
@@ -63,7 +63,7 @@ head_steps n up k s a {w} {sent} {plugs} {after} flying stepped went room same =
       up = refl;
       seat = ap (λ (u : Seated). u.seat) stepped;
       copies = ap (λ (x : Outbox). x.flying) out;
-      answer = ap₂ (λ (u : Seated) (x : Outbox). Stepped (step_report k a u x)) stepped out;
+      done = ap₂ (λ (u : Seated) (x : Outbox). Stepped (step_report k a u x)) stepped out;
       whole = room.whole;
       few = room.few;
     }
@@ -167,7 +167,7 @@ set_is {state} {words} {after} {flying} {link} {left} up s kept spares =
       up = refl;
       seat = refl;
       copies = spares.copies;
-      answer = ap₂ (λ x y. Linked (x - y)) (sym long) (sym short ∙ ap length spares.copies);
+      done = ap₂ (λ x y. Linked (x - y)) (sym long) (sym short ∙ ap length spares.copies);
       whole = spares.whole;
       few = omega (arith, spares.few, kept.few);
     }
@@ -203,22 +203,6 @@ module _ (n : Network) (flying : ℕ) where
   -- its link is there, and its state is 0 or 1
   pub link_accepted : (s : Setting) → own_refusal n flying (Link s) ≡ 0 → s.link < n.nlinks
   link_accepted s e = leb-false n.nlinks s.link (neither (leb n.nlinks s.link) (leb 2 s.state) (none (Link s) e).0).0
-
-  -- asked one behind the other
-  pub present_refusal : (p : Presented) {found to r : ℕ} → found ≡ next 0 (when 30 (leb n.nhosts p.host)) → to ≡ address_of p.to → to < address_bound
-      → r ≡ next found (when 31 (eqb to 0)) → r ≡ own_refusal n flying (Present p)
-  unfolding own_refusal
-  present_refusal p {to = to} f t below e =
-      let test : eqb to 0 ≡ to_zero (address_of p.to) = rw (← t, lt-leb address_bound to below) (sym (or-false (eqb to 0))) in
-      e ∙ ap₂ (λ x b. next x (when 31 b)) f test ∙ in_order (own_causes n flying (Present p)) (numbered (Present p))
-
-  pub take_refusal : (place : ℕ) {r : ℕ} → r ≡ next 0 (when 32 (leb flying place)) → r ≡ own_refusal n flying (Take place)
-  unfolding own_refusal
-  take_refusal place e = e ∙ in_order (own_causes n flying (Take place)) (numbered (Take place))
-
-  pub link_refusal : (s : Setting) {absent : Bool} {r : ℕ} → absent ≡ no_link n.nlinks s → r ≡ next 0 (when 33 absent) → r ≡ own_refusal n flying (Link s)
-  unfolding own_refusal
-  link_refusal s f e = e ∙ ap (λ b. next 0 (when 33 b)) f ∙ in_order (own_causes n flying (Link s)) (numbered (Link s))
 
 -- ---- By the event
 

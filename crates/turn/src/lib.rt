@@ -88,6 +88,7 @@ pub fn received_by(a: Result<Done, Refusal>) -> u32
 }
 
 // The host with a number.
+#[tactic(auto, unfolding(crate::specs::Turn::host_of))]
 pub fn host_of(n: &Network, i: u8) -> Host
     ensures { result ≡ host_of n.now i }
 {
@@ -95,6 +96,7 @@ pub fn host_of(n: &Network, i: u8) -> Host
 }
 
 // The port that receives a copy.
+#[tactic(auto, unfolding(crate::specs::Turn::port_to))]
 fn port_to(n: &Network, c: Copy) -> Port
     ensures { result ≡ port_to n.now c }
 {
@@ -205,6 +207,7 @@ fn set_link(up: &mut [bool], words: &mut [[u64; 3]], flying: usize, s: Setting) 
 }
 
 // The head whose turn it is.
+#[tactic(auto, unfolding(crate::specs::Turn::head_of))]
 pub fn head_of(network: &Network, words: &[[u64; 3]], e: Event) -> u8
     ensures accepted { (flying : ℕ) → Kept words.now flying → spec.own_refusal network.now flying e ≡ 0 → result ≡ head_of network.now (copies_in flying words.now) e }
     ensures always { result ≡ head_of network.now (copies_in (length words.now) words.now) e }
@@ -223,6 +226,7 @@ pub fn head_of(network: &Network, words: &[[u64; 3]], e: Event) -> u8
 }
 
 // A head takes its turn.
+#[tactic(auto, unfolding(crate::specs::Turn::turn_of, crate::specs::Turn::staying))]
 pub fn turn(
     network: &Network,
     plugs: &[u8],
@@ -247,6 +251,7 @@ pub fn turn(
 }
 
 // An event's own refusal, 30 to 33.
+#[tactic(auto, unfolding(crate::specs::Turn::own_refusal))]
 pub fn check_event(network: &Network, flying: usize, e: Event) -> Result<(), Refusal>
     ensures { refused_as result ≡ spec.own_refusal network.now flying e }
 {

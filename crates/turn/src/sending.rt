@@ -82,6 +82,7 @@ fn receive(i: u8, s: Sent) -> Sent
 }
 
 // One port sends.
+#[tactic(auto, unfolding(crate::specs::Send::send_on))]
 fn send_on(plug: Plug, a: Arrival, h: Header, words: &mut [[u64; 3]], s: Sent) -> Sent
     requires { Room words.old s 254 × Numbered plug }
     ensures sent { outbox (copies_in result.flying words.new) result ≡ send_on plug a h (outbox (copies_in s.flying words.old) s) }
@@ -96,6 +97,7 @@ fn send_on(plug: Plug, a: Arrival, h: Header, words: &mut [[u64; 3]], s: Sent) -
 }
 
 // A port sends where the mask names it.
+#[tactic(auto, unfolding(crate::specs::Send::send_at))]
 fn send_at(
     plugs: &[u8],
     switch: u8,
@@ -139,6 +141,7 @@ fn send_all(
 }
 
 // What a verdict sends goes out.
+#[tactic(auto, unfolding(crate::specs::Send::send_out))]
 pub fn send_out(
     plugs: &[u8],
     switch: u8,

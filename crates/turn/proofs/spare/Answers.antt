@@ -6,5 +6,5 @@ use Rattle.turn.proofs.spare.Goals as goal
 pub returns-then-state : goal.returns-then-state
 returns-then-state c = spared_up c.if-state.true c.requires
 
-pub returns : goal.returns
-returns c = spared_down c.if-state.false c.requires c.cut.ensures (search rules)
+pub returns-else-state : goal.returns-else-state
+returns-else-state c = spared_down c.if-state.false c.requires c.cut.ensures (search rules)

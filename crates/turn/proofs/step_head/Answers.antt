@@ -2,7 +2,5 @@
 use Rattle.turn.proofs.Turning.{head_steps}
 use Rattle.turn.proofs.step_head.Goals as goal
 
-pub returns : goal.returns
-returns c =
-    let sent = c.send_out-s.ensures in
-    record { turns = (λ n up same. head_steps n up _ _ _ _ c.step-t.ensures.steps sent.sent sent.room same); words = sent.words }
+pub returns-clause-turns : goal.returns-clause-turns
+returns-clause-turns c n up same = head_steps n up _ _ _ _ c.step-r.ensures c.send_out-s.ensures.sent c.send_out-s.ensures.room same

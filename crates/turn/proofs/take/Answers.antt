@@ -1,36 +1,28 @@
 -- The copy read at the place is the one of the list, and the step is that of its arrival, with the others in flight.
 use Rattle.turn.proofs.Writing.{laid_without}
 use native.Mathlib.Omega.{arith}
-use Rattle.seat.specs.Seat.{seat_in}
 use Rattle.turn.proofs.Turning.{place_there, read_there, read_hops, taken_port, taken_is, turns_as}
 use borrow.Author.Rules.{rules}
 use Rattle.turn.proofs.take.Goals as goal
 
 pub from_link-a-requires : goal.from_link-a-requires
-from_link-a-requires c =
-    read_hops (read_there c.requires.0 c.requires.1 c.copy_at-c.ensures c.port_to-port.ensures) c.requires.1
+from_link-a-requires c = read_hops (read_there c.requires.0 c.requires.1 c.copy_at-c.ensures c.port_to-port.ensures) c.requires.1
 
 pub take_out-requires : goal.take_out-requires
-take_out-requires c =
-    (place_there c.requires.0 c.requires.1, search rules)
+take_out-requires c = (place_there c.requires.0 c.requires.1, search rules)
 
 pub overflow_sub-flying : goal.overflow_sub-flying
-overflow_sub-flying c =
-    omega (arith, place_there c.requires.0 c.requires.1)
+overflow_sub-flying c = omega (arith, place_there c.requires.0 c.requires.1)
 
 pub step_head-requires : goal.step_head-requires
 step_head-requires c =
     let read = read_there c.requires.0 c.requires.1 c.copy_at-c.ensures c.port_to-port.ensures in
-    (search rules, taken_port read c.from_link-a.ensures c.requires.1, c.requires.2)
+    (search rules, taken_port read c.from_link-a.ensures c.requires.1)
 
-pub returns : goal.returns
-returns c =
-    let a = c.args in
-    let s = seat_in a.setup a.nonce a.addresses.now a.ports.now a.hops.now a.cells.now in
+pub returns-clause-turns : goal.returns-clause-turns
+returns-clause-turns c up same =
     let read = read_there c.requires.0 c.requires.1 c.copy_at-c.ensures c.port_to-port.ensures in
-    let taken = c.take_out.ensures in
-    let stepped = c.step_head.ensures in
-    record {
-      turns = (λ up same. turns_as (taken_is read c.from_link-a.ensures up s taken.copies) (stepped.turns a.network up same));
-      words = laid_without (place_there c.requires.0 c.requires.1) (search rules) taken stepped.words;
-    }
+    turns_as (taken_is read c.from_link-a.ensures up c.args.seat.now c.take_out.ensures.copies) (c.step_head.ensures.turns c.args.network.now up same)
+
+pub returns-clause-words : goal.returns-clause-words
+returns-clause-words c = laid_without (place_there c.requires.0 c.requires.1) (search rules) c.take_out.ensures c.step_head.ensures.words

@@ -1,7 +1,6 @@
 -- The bit of one of 32 hosts stays within 32 bits.
-use native.Mathlib.Omega.{arith}
 use Rattle.turn.proofs.Outboxes.{received_there}
 use Rattle.turn.proofs.sending.receive.Goals as goal
 
 pub returns : goal.returns
-returns c = received_there c.args.i c.args.s (omega arith)
+returns c = received_there c.args.i c.args.s c.requires

@@ -1,6 +1,5 @@
 -- What the ports from here on still send makes up the whole.
 use Rattle.turn.specs.Send.{Written}
-use Prim.Native.Nat.{◌-◌}
 use Rattle.cabling.specs.Cabling.{most_ports, plug_at}
 use Rattle.turn.specs.Send.{nothing_sent, send_from}
 use Rattle.turn.proofs.Outboxes.{Reached}
@@ -9,6 +8,3 @@ use Rattle.turn.proofs.sending.send_all.Given as goal
 
 abbrev pub invariant-loop-port : goal.invariant-loop-port
 invariant-loop-port l = Reached (plug_at l.plugs l.switch) l.a l.c.mask l.c.header (send_from (plug_at l.plugs l.switch) l.a l.c.mask l.c.header most_ports 0 (nothing_sent (copies_in l.flying l.initial.words))) l.words l.s l.port × Written l.flying l.initial.words l.s.flying l.words
-
-abbrev pub decreases-loop-port : goal.decreases-loop-port
-decreases-loop-port l = most_ports - l.port
