@@ -8,16 +8,15 @@ use lib.ListN.{length, take, length-replicate, replicate-append-replicate}
 use lib.Seq.{take_at}
 use borrow.Author.Tests.{ne_eqb, not-false}
 use Rattle.refusal.specs.Refusal.{Cause, first}
-use Rattle.refusal.proofs.Laws.{accepted_leaves, none_holds, refused_leaves}
+use Rattle.refusal.proofs.Laws.{none_holds}
 use Rattle.table.specs.declared.Table.{Table}
-use Rattle.table.specs.Table.{empty_table, lookup_of, slots, table_of}
+use Rattle.table.specs.Table.{empty_table}
 use Rattle.filter.specs.Filter.{zeros}
 use Rattle.filter.specs.Triple.{is_length, well_formed}
 use Rattle.rules.specs.declared.Setup.{Setup}
-use Rattle.head.specs.declared.Switch.{Switch}
 use Rattle.head.specs.Switch.{switch_causes}
 use Rattle.head.specs.Step.{switch_of}
-use Rattle.engine.specs.Head.{FreshensLent, LooksUp, found_values, fresh_of, fresh_refusal, lookup_refusal, setup_refusal, sized}
+use Rattle.engine.specs.Head.{fresh_of, setup_refusal}
 
 -- ---- Refusal 1 of a fresh switch
 

@@ -1,5 +1,5 @@
 -- What a caller may know of a step, in place of its text: of rule 1, of whole steps, of answers. The laws of the rules are those of `rules`.
-use mathlib.Core.Path.{◌≡◌, refl, sym, ◌∙◌}
+use mathlib.Core.Path.{◌≡◌, sym, ◌∙◌}
 use mathlib.Core.Logic.{◌↔◌}
 use mathlib.Core.Bool.{true, false}
 use mathlib.Core.List.{List}

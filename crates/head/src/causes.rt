@@ -40,9 +40,10 @@ fn is_bad_length(host: bool, n: usize) -> bool
     ensures { result ≡ spec.bad_length host n }
 {
     if host {
-        return is_outside(Frame::SHORTEST, Frame::LONGEST, n);
+        is_outside(Frame::SHORTEST, Frame::LONGEST, n)
+    } else {
+        is_outside(Frame::SHORTEST + Frame::TAG, Frame::LONGEST + Frame::TAG, n)
     }
-    is_outside(Frame::SHORTEST + Frame::TAG, Frame::LONGEST + Frame::TAG, n)
 }
 
 // Cause 6.
@@ -50,9 +51,10 @@ fn has_tag_inside(host: bool, frame: &[u8]) -> bool
     ensures { result ≡ spec.tag_inside host frame.now }
 {
     if host {
-        return frame::type_of(frame) == Frame::OUR_TYPE;
+        frame::type_of(frame) == Frame::OUR_TYPE
+    } else {
+        frame::is_tagged_twice(frame)
     }
-    frame::is_tagged_twice(frame)
 }
 
 // Cause 7.
@@ -74,9 +76,10 @@ fn is_too_short(host: bool, frame: &[u8], room: usize) -> bool
     ensures { result ≡ spec.too_short host (length frame.now) room }
 {
     if host {
-        return room < frame.len() + Frame::TAG;
+        room < frame.len() + Frame::TAG
+    } else {
+        room < frame.len()
     }
-    room < frame.len()
 }
 
 // Refusals 2 to 9.

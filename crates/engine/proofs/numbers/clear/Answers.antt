@@ -1,6 +1,5 @@
 use mathlib.Core.Path.{refl}
 use Rattle.engine.proofs.Putting.{clearing_ends, clearing_next}
-use Prim.Native.Nat.{◌-◌}
 use native.Mathlib.Omega.{arith}
 use Rattle.engine.proofs.numbers.clear.Goals as goal
 

@@ -1,5 +1,4 @@
 use Rattle.engine.proofs.Putting.{putting_starts, putting_next, putting_ends}
-use Prim.Native.Nat.{◌-◌}
 use native.Mathlib.Omega.{arith}
 use Rattle.engine.proofs.numbers.put.Goals as goal
 

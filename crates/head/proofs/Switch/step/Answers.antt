@@ -1,8 +1,7 @@
 -- Refused with 1, nothing was touched; else the step without 1 is the step.
-use mathlib.Core.Path.{sym}
 use lib.ListN.{length}
 use Rattle.std.proofs.lemmas.Result.{err_from_is_err_and}
-use Rattle.head.proofs.Steps.{steps_refused, steps_first}
+use Rattle.head.proofs.Steps.{steps_first}
 use Rattle.head.proofs.Refusals.{passed_1}
 use Rattle.head.proofs.Switch.step.Goals as goal
 

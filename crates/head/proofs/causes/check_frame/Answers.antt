@@ -2,7 +2,6 @@
 use mathlib.Core.Path.{sym, ◌∙◌}
 use native.Mathlib.Omega.{arith}
 use borrow.Author.Tests.{not-false}
-use Rattle.rules.specs.Mask.{names}
 use Rattle.rules.proofs.Bits.{names_below}
 use Rattle.head.proofs.Refusals.{on_ok}
 use Rattle.head.proofs.causes.check_frame.Goals as goal
