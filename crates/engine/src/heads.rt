@@ -142,11 +142,11 @@ pub fn sc_switch_fresh(
     };
     match fresh(setup, filter.len()) {
         Err(r) => r.number(),
-        Ok(switch) => {
-            *nonce = switch.nonce;
-            addresses.copy_from_slice(&switch.table.addresses);
-            via.copy_from_slice(&switch.table.ports);
-            hops.copy_from_slice(&switch.table.hops);
+        Ok(made) => {
+            *nonce = made.nonce;
+            addresses.copy_from_slice(&made.table.addresses);
+            via.copy_from_slice(&made.table.ports);
+            hops.copy_from_slice(&made.table.hops);
             filter.fill(0);
             0
         }
