@@ -12,11 +12,9 @@ use borrow.Author.Tests.{lt-ltb, le-ltb, eq-eqb, ne_eqb, eqb-true, eqb-false, lt
 use Rattle.refusal.proofs.Laws.{neither}
 use Rattle.wire.specs.Wire.{number, part}
 use Rattle.network.specs.Format.{length_in, kind_in, body_in, headless}
-use Rattle.event.specs.declared.Address.{Address}
 use Rattle.event.specs.declared.Event.{Event}
 use Rattle.event.specs.declared.Event.TheVariants.{Present, Take, Link}
-use Rattle.event.specs.declared.Answer.TheVariants.{Refused, Got}
-use Rattle.event.specs.Event.{kind_of, event_length, size_of, address_in, event_of, event_in, bad_event, event_fault, told_answer, read_answer}
+use Rattle.event.specs.Event.{kind_of, event_length, size_of, event_of, event_in, bad_event}
 
 -- a record that starts here is all there
 pub record Whole (b : List ℕ) : Type 0 where
@@ -76,68 +74,3 @@ unfolding size_of
 size_within {b} v {e} q =
     let kind : kind_of e ≡ kind_in b = ap kind_of q ∙ kind_back (body_in b) (kind_in b) (known v) in
     omega (arith, ap event_length kind, v.sized, v.room)
-
--- the record at a place of the input
-module _ (l : List ℕ) (at : ℕ) where
-  bad_is : bad_event (drop at l)
-      ≡ ltb (length l - at) 3 || eqb (number (part at 2 l)) 0 || not (eqb (number (part at 2 l)) (event_length (get_or l (at + 2) 0)))
-      || ltb (length l - at) (number (part at 2 l) + 2)
-  unfolding bad_event headless
-  bad_is = rw (length-drop at l, get_or-drop at l 2 0)
-
-  pub bad_early : length l - at < 3 → true ≡ bad_event (drop at l)
-  bad_early h = sym (bad_is ∙ rw (lt-ltb (length l - at) 3 h))
-
-  -- with the length that the code read
-  module _ (head : 3 ≤ length l - at) {long : ℕ} (p : long ≡ number (part at 2 l)) where
-    pub bad_none : long ≡ 0 → true ≡ bad_event (drop at l)
-    bad_none h = sym (bad_is ∙ rw (← p, le-ltb (length l - at) 3 head, h))
-
-    -- with the length that the kind it read is due
-    module _ (some : long ≡ 0 → ⊥) {due : ℕ} (e : due ≡ event_length (get_or l (at + 2) 0)) where
-      pub bad_length_lem : (long ≡ due → ⊥) → true ≡ bad_event (drop at l)
-      bad_length_lem h = sym (bad_is ∙ rw (← p, ← e, le-ltb (length l - at) 3 head, ne_eqb long 0 some, ne_eqb long due h))
-
-      pub bad_cut : long ≡ due → ltb (length l - at) (long + 2) ≡ bad_event (drop at l)
-      bad_cut h = sym (bad_is ∙ rw (← p, ← e, le-ltb (length l - at) 3 head, ne_eqb long 0 some, eq-eqb long due h))
-
-  -- the places that the code reads of a whole record
-  module _ (h : bad_event (drop at l) ≡ false) where
-    pub least_room : at + 5 ≤ length l
-    least_room =
-        let v = whole (drop at l) h in
-        omega (arith, length-drop at l, length_least (kind_in (drop at l)) (known v), v.sized, v.room)
-
-    pub present_room : get_or l (at + 2) 0 ≡ 4 → at + 10 ≤ length l
-    unfolding event_length
-    present_room e =
-        let v = whole (drop at l) h in
-        let long : length_in (drop at l) ≡ 8 = v.sized ∙ rw (get_or-drop at l 2 0, e) in
-        omega (arith, length-drop at l, v.room)
-
-  event_is : event_in (drop at l) ≡ event_of (get_or l (at + 2) 0) (drop (at + 3) l)
-  event_is = rw (get_or-drop at l 2 0, drop-drop 3 at l)
-
-  pub present_read : get_or l (at + 2) 0 ≡ 4 → {to : Address} → to ≡ address_in (at + 4) l
-      → Present (record { host = get_or l (at + 3) 0; to = to }) ≡ event_in (drop at l)
-  unfolding event_of
-  present_read k e = sym (event_is ∙ rw (k, e) (simp (get_or-drop, add_assoc)))
-
-  pub take_read : get_or l (at + 2) 0 ≡ 5 → {place : ℕ} → place ≡ number (part (at + 3) 2 l) → Take place ≡ event_in (drop at l)
-  unfolding event_of
-  take_read k e = sym (event_is ∙ rw (k, e))
-
-  pub link_read : (get_or l (at + 2) 0 ≡ 4 → ⊥) → (get_or l (at + 2) 0 ≡ 5 → ⊥)
-      → Link (record { link = get_or l (at + 3) 0; state = get_or l (at + 4) 0 }) ≡ event_in (drop at l)
-  unfolding event_of
-  link_read a b = sym (event_is ∙ rw (ne_eqb (get_or l (at + 2) 0) 4 a, ne_eqb (get_or l (at + 2) 0) 5 b) (simp (get_or-drop, add_assoc)))
-
--- what the code answers
-module _ (b : List ℕ) where
-  pub refused_told : bad_event b ≡ true → told_answer (Refused 20) ≡ read_answer b
-  unfolding event_fault told_answer
-  refused_told h = rw h
-
-  pub got_told : bad_event b ≡ false → {e : Event} → e ≡ event_in b → told_answer (Got e) ≡ read_answer b
-  unfolding event_fault told_answer
-  got_told h q = rw (h, q)

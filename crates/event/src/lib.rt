@@ -48,6 +48,7 @@ pub enum Event {
 
 impl Address {
     // The number that the six bytes write.
+    #[tactic(auto, unfolding(crate::specs::Event::address_of))]
     pub fn number(self) -> u64
         ensures value { result ≡ address_of self }
         ensures bound { result < address_bound }
@@ -87,6 +88,7 @@ const LINK_LETTER: u8 = 0x4B;
 
 impl Kind {
     // The kind that a byte names, if it names one.
+    #[tactic(auto, unfolding(crate::specs::Event::event_length))]
     fn of(byte: u8) -> Result<Kind, Refusal>
         ensures known { IfOk result (λ kind. byte_of kind ≡ byte) }
         ensures unknown { IfErr result (λ r. (r ≡ Refusal.BadRecord) × (event_length byte ≡ 0)) }
@@ -100,8 +102,10 @@ impl Kind {
     }
 
     // What the length of its records says.
+    #[tactic(auto, unfolding(crate::specs::Event::event_length))]
     fn length(self) -> u8
-        ensures { result ≡ event_length (byte_of self) }
+        ensures value { result ≡ event_length (byte_of self) }
+        ensures least { 3 ≤ result }
     {
         match self {
             Kind::Present => PRESENT_LENGTH,
@@ -113,9 +117,11 @@ impl Kind {
 
 // The kind of the record that bytes start with; it may be cut short, of wrong length or of unknown
 // kind.
+#[tactic(auto, unfolding(crate::specs::Event::event_fault, crate::specs::Event::bad_event, network::specs::Format::headless))]
 fn kind_of(bytes: &[u8]) -> Result<Kind, Refusal>
     ensures number { refused_as result ≡ event_fault bytes.now }
     ensures kind { IfOk result (λ kind. byte_of kind ≡ kind_in bytes.now) }
+    ensures room { IfOk result (λ kind. event_length (byte_of kind) + 2 ≤ length bytes.now) }
 {
     Refusal::BadRecord.when(bytes.len() < 3)?;
     let kind = Kind::of(bytes[2])?;
@@ -140,6 +146,7 @@ fn address_at(bytes: &[u8], at: usize) -> Address
 }
 
 // The event of a kind that a body starts with.
+#[tactic(auto, unfolding(crate::specs::Event::event_of, crate::specs::Event::event_length))]
 fn event_of(kind: Kind, body: &[u8]) -> Event
     requires { event_length (byte_of kind) ≤ length body.now + 1 }
     ensures { result ≡ event_of (byte_of kind) body.now }
@@ -158,6 +165,7 @@ fn event_of(kind: Kind, body: &[u8]) -> Event
 }
 
 // The event whose record starts at a place of the input, if there is one.
+#[tactic(auto, unfolding(crate::specs::Event::event_fault))]
 pub fn read_event(input: &[u8], at: usize) -> Result<Event, Refusal>
     ensures { told event_values result ≡ read_answer (drop at input.now) }
 {
@@ -167,6 +175,7 @@ pub fn read_event(input: &[u8], at: usize) -> Result<Event, Refusal>
 }
 
 // The letter that an event is printed with.
+#[tactic(auto, unfolding(crate::specs::Event::letter_of))]
 pub fn letter_of(e: Event) -> u8
     ensures { result ≡ letter_of e }
 {
@@ -178,6 +187,7 @@ pub fn letter_of(e: Event) -> u8
 }
 
 // How many bytes an event's record takes.
+#[tactic(auto, unfolding(crate::specs::Event::size_of, crate::specs::Event::event_length, crate::specs::Event::kind_of))]
 pub fn size_of(e: Event) -> usize
     ensures { result ≡ size_of e }
 {
