@@ -1,6 +1,4 @@
 pub mod Laws
-mod Parts
-mod Acting
 mod Following
 mod Standing
 mod Small

@@ -7,13 +7,13 @@ use native.Mathlib.Omega.{arith}
 use borrow.Author.Tests.{eqb-true, ltb-false}
 use lib.Dec.{eqb, ltb}
 use lib.ListN.{drop, length, length-append, length-drop}
+use Rattle.std.specs.Prelude.{Result, Ok, Err}
+use Rattle.refusal.specs.declared.Refusal.{Refusal}
 use Rattle.refusal.specs.Refusal.{first}
 use Rattle.network.specs.declared.Network.{Network}
 use Rattle.network.specs.Describe.{read_causes, read_fault, read_network, read_end}
 use Rattle.flight.specs.Flight.{most}
 use Rattle.event.specs.declared.Event.{Event}
-use Rattle.event.specs.declared.Answer.{Answer as Read}
-use Rattle.event.specs.declared.Answer.TheVariants.{Refused as Bad, Got}
 use Rattle.event.specs.Event.{read_event, size_of}
 use Rattle.event.proofs.Laws.{read_within, size_range}
 use Rattle.lines.specs.Lines.{refused_line, stop_line}
@@ -26,12 +26,12 @@ use Rattle.transcript.proofs.Small.{few_flying, read_small, small_refusal}
 -- ---- One by one
 
 module _ (turns k : ℕ) (s : State) where
-  pub lines_got : {e : Event} (b : List ℕ) → 1 ≤ length b → read_event b ≡ Got e → lines_in (suc turns) k s b ≡ line_at k s e ++ lines_in turns (k + 1) (after s e) (drop (size_of e) b)
+  pub lines_got : {e : Event} (b : List ℕ) → 1 ≤ length b → read_event b ≡ Ok e → lines_in (suc turns) k s b ≡ line_at k s e ++ lines_in turns (k + 1) (after s e) (drop (size_of e) b)
   unfolding lines_in printed
   lines_got [] h q = absurd (omega arith)
   lines_got (x ∷ xs) h q = ap (λ r. printed k s (λ e. lines_in turns (k + 1) (after s e) (drop (size_of e) (x ∷ xs))) r) q
 
-  pub lines_bad : {m : ℕ} (b : List ℕ) → 1 ≤ length b → read_event b ≡ Bad m → lines_in (suc turns) k s b ≡ stop_line
+  pub lines_bad : {m : Refusal} (b : List ℕ) → 1 ≤ length b → read_event b ≡ Err m → lines_in (suc turns) k s b ≡ stop_line
   unfolding lines_in printed
   lines_bad [] h q = absurd (omega arith)
   lines_bad (x ∷ xs) h q = ap (λ r. printed k s (λ e. lines_in turns (k + 1) (after s e) (drop (size_of e) (x ∷ xs))) r) q
@@ -62,11 +62,11 @@ lines_short zero k s b h few = omega arith
 lines_short (suc turns) k s [] h few = omega arith
 lines_short (suc turns) k s (x ∷ xs) h few = by_read (read_event (x ∷ xs)) refl (λ e l. lines_short turns (k + 1) (after s e) (drop (size_of e) (x ∷ xs)) l (few_after s e few))
   where
-    by_read : (r : Read) → read_event (x ∷ xs) ≡ r
+    by_read : (r : Result Event Refusal) → read_event (x ∷ xs) ≡ r
         → ((e : Event) → k + 1 + length (drop (size_of e) (x ∷ xs)) < 100_000 → 5 * length (lines_in turns (k + 1) (after s e) (drop (size_of e) (x ∷ xs))) ≤ 26 * length (drop (size_of e) (x ∷ xs)) + 40)
         → 5 * length (printed k s (λ e. lines_in turns (k + 1) (after s e) (drop (size_of e) (x ∷ xs))) r) ≤ 26 * length (x ∷ xs) + 40
-    by_read (Bad n) q rest = omega (arith, stop_long)
-    by_read (Got e) q rest =
+    by_read (Err n) q rest = omega (arith, stop_long)
+    by_read (Ok e) q rest =
         let long = length-drop (size_of e) (x ∷ xs) in
         let within = read_within (x ∷ xs) e q in
         let size = (size_range e).0 in

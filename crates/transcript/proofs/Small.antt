@@ -1,11 +1,16 @@
 -- What a line prints is small, in shape or not: refusal numbers have two digits, and no more than 512 copies are in flight.
 use Prim.Native.Nat.{ℕ, zero, suc, ◌≤◌}
-use mathlib.Core.Path.{◌≡◌, refl}
+use mathlib.Core.Path.{◌≡◌, refl, sym, ◌∙◌}
 use mathlib.Core.Bool.{Bool, true, false, cond}
 use mathlib.Core.List.{List, [], ◌∷◌}
 use native.Mathlib.Omega.{arith}
+use lib.Dec.{eqb}
 use lib.ListN.{length-take}
+use Rattle.std.specs.Prelude.{Result, Ok, Err}
+use Rattle.refusal.specs.declared.Refusal.{Refusal}
 use Rattle.refusal.specs.Refusal.{Cause, first, leaves}
+use Rattle.refusal.specs.Number.{number_of}
+use Rattle.refusal.proofs.Told.{number_apart, refused_apart}
 use Rattle.network.specs.declared.Network.{Network}
 use Rattle.network.specs.declared.Record.{Record}
 use Rattle.network.specs.Checks.{causes, checked, record_fault, records_fault}
@@ -14,29 +19,35 @@ use Rattle.network.specs.Describe.{read_causes, read_fault, scan_of}
 use Rattle.flight.specs.Flight.{most}
 use Rattle.event.specs.declared.Event.{Event}
 use Rattle.event.specs.declared.Event.TheVariants.{Present, Take, Link}
-use Rattle.turn.specs.declared.Answer.TheVariants.{Refused}
-use Rattle.turn.specs.Turn.{presents, refusal_of, sets, steps, takes, turn_of}
+use Rattle.turn.specs.Turn.{own_causes, own_refusal, refusal_of}
 use Rattle.turn.proofs.Laws.{turn_few}
 use Rattle.bench.specs.declared.Bench.{Bench}
 use Rattle.bench.specs.Bench.{in_flight}
 use Rattle.bench.specs.Events.{event_of, turn_in}
 use Rattle.counters.specs.declared.Counters.{Counters}
-use Rattle.counters.specs.Event.{event_causes, event_refusal, happens_of}
+use Rattle.counters.specs.Event.{event_refusal, happens_of, refusal_numbered}
 
 -- ---- Refusal numbers
 
--- each cause has a number up to a bound
-abbrev UpTo : ℕ → List Cause → Type 0
-UpTo m [] = Unit {0}
-UpTo m (c ∷ cs) = (c.number ≤ m) × UpTo m cs
+-- what holds of the number of each cause, and of 0, holds of the first
+abbrev EachNumber : (ℕ → Type 0) → List Cause → Type 0
+EachNumber P [] = Unit {0}
+EachNumber P (c ∷ cs) = P c.number × EachNumber P cs
 
-first_small : (m : ℕ) (cs : List Cause) → UpTo m cs → first cs ≤ m
-first_small m [] u = omega arith
-first_small m (c ∷ cs) u = by_test c.holds (first_small m cs u.1)
+first_is : (P : ℕ → Type 0) → P 0 → (cs : List Cause) → EachNumber P cs → P (first cs)
+first_is P none [] u = none
+first_is P none (c ∷ cs) u = by_test c.holds (first_is P none cs u.1)
   where
-    by_test : (b : Bool) → first cs ≤ m → cond b c.number (first cs) ≤ m
+    by_test : (b : Bool) → P (first cs) → P (cond b c.number (first cs))
     by_test true rest = u.0
     by_test false rest = rest
+
+-- each cause has a number up to a bound
+abbrev UpTo : ℕ → List Cause → Type 0
+UpTo m cs = EachNumber (λ k. k ≤ m) cs
+
+first_small : (m : ℕ) (cs : List Cause) → UpTo m cs → first cs ≤ m
+first_small m cs u = first_is (λ k. k ≤ m) (omega arith) cs u
 
 record_small : (n : Network) (r : Record) → record_fault n r ≤ 26
 unfolding record_fault
@@ -51,29 +62,43 @@ pub read_small : (b : List ℕ) → read_fault b ≤ 26
 unfolding read_fault
 read_small b = first_small 26 (read_causes b) (omega arith, (omega arith, (records_small empty_network (scan_of b).found, (omega arith, tt))))
 
-refusal_small : (b : Bench) (c : Counters) (e : Event) → event_refusal b c e ≤ 34
-unfolding event_refusal
-refusal_small b c (Present p) = first_small 34 (event_causes b c (Present p)) (omega arith, (omega arith, (omega arith, (omega arith, (omega arith, tt)))))
-refusal_small b c (Take place) = first_small 34 (event_causes b c (Take place)) (omega arith, (omega arith, (omega arith, (omega arith, tt))))
-refusal_small b c (Link s) = first_small 34 (event_causes b c (Link s)) (omega arith, (omega arith, (omega arith, (omega arith, tt))))
+-- a number stands for one refusal: the one that has it
+abbrev Stands : ℕ → Type 0
+Stands m = (r : Refusal) → number_of r ≡ m → (m ≡ 0 → ⊥) × (refusal_numbered m ≡ r)
 
--- an accepted event's answer is no refusal
-never_refused : (b : Bench) (e : Event) → refusal_of (event_of b e).answer ≡ 0
-unfolding event_of turn_in turn_of presents takes sets steps
-never_refused b (Present p) = refl
-never_refused b (Take place) = refl
-never_refused b (Link s) = refl
+stands : (m : ℕ) → number_of (refusal_numbered m) ≡ m → (m ≡ 0 → ⊥) → Stands m
+stands m e some r q = (some, number_apart (refusal_numbered m) r (e ∙ sym q))
+
+none_stands : Stands 0
+none_stands r q = let none : ◌≡◌ {A = Result ℕ Refusal} (Ok 0) (Err r) = refused_apart r (Ok 0) (sym q) in (λ z. cc, cc)
+
+pub own_numbered : (n : Network) (flying : ℕ) (e : Event) → Stands (own_refusal n flying e)
+unfolding own_refusal
+own_numbered n flying (Present p) = first_is Stands none_stands (own_causes n flying (Present p)) (stands 30 refl (λ z. omega arith), (stands 31 refl (λ z. omega arith), tt))
+own_numbered n flying (Take place) = first_is Stands none_stands (own_causes n flying (Take place)) (stands 32 refl (λ z. omega arith), tt)
+own_numbered n flying (Link s) = first_is Stands none_stands (own_causes n flying (Link s)) (stands 33 refl (λ z. omega arith), tt)
+
+-- a refusal's number has two digits
+either : (b : Bool) (r s : Refusal) → number_of r ≤ 34 → number_of s ≤ 34 → number_of (cond b r s) ≤ 34
+either true r s h k = h
+either false r s h k = k
+
+numbered_small : (m : ℕ) → number_of (refusal_numbered m) ≤ 34
+numbered_small m =
+    either (eqb m 34) _ _ (omega arith)
+    (either (eqb m 28) _ _ (omega arith) (either (eqb m 30) _ _ (omega arith) (either (eqb m 31) _ _ (omega arith) (either (eqb m 32) _ _ (omega arith) (omega arith)))))
 
 -- ---- At any event
 
 module _ (b : Bench) (c : Counters) (e : Event) where
-  small_by : (r : ℕ) → r ≤ 34 → refusal_of (leaves r (Refused r) (event_of b e).answer) ≤ 34
-  small_by zero h = omega (arith, never_refused b e)
-  small_by (suc r) h = h
+  small_by : (r : ℕ) → refusal_of (leaves r (Err (refusal_numbered r)) (event_of b e).answer) ≤ 34
+  unfolding event_of
+  small_by zero = omega arith
+  small_by (suc r) = numbered_small (suc r)
 
   pub small_refusal : refusal_of (happens_of b e c).happened.answer ≤ 34
   unfolding happens_of
-  small_refusal = small_by (event_refusal b c e) (refusal_small b c e)
+  small_refusal = small_by (event_refusal b c e)
 
   few_by : (r : ℕ) → b.flying ≤ most → (leaves r b (event_of b e).bench).flying ≤ most
   unfolding event_of turn_in in_flight

@@ -1,5 +1,5 @@
 -- Words of the code that runs: what an event does to a bench whose heads' setups are worked out when their turn comes.
-use Rattle.std.specs.Prelude.{ℕ, ◌≤◌, ◌≡◌, List, Result, Ok, Err, get_or, length, replicate, set}
+use Rattle.std.specs.Prelude.{ℕ, ◌<◌, ◌≤◌, ◌≡◌, Bool, List, Result, Ok, Err, get_or, length, replicate, set}
 use Rattle.refusal.specs.Number.{number_of}
 use Rattle.refusal.specs.declared.Refusal.{Refusal}
 use Rattle.wire.specs.Wire.{put}

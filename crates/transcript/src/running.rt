@@ -15,6 +15,7 @@ use seat::Seat;
 use turn::{Done, check_event, head_of, received_by, refusal_of, turn, verdict_of};
 
 // What a run keeps of a bench. A head's setup is left behind here: it is worked out when its turn comes.
+#[derive(Drop)]
 struct Parts {
     up: [bool; Network::LINKS],
     seats: [Seat; Network::SWITCHES],
@@ -69,6 +70,7 @@ impl Parts {
 }
 
 // An event's line, with the copies in flight behind it.
+#[tactic(auto, unfolding(crate::specs::Transcript::line_for))]
 fn line_for(number: u32, e: Event, a: Result<Done, Refusal>, flying: usize) -> Line
     requires { flying ≤ most }
     ensures { result ≡ line_for number e a flying }
