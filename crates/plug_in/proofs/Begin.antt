@@ -2,17 +2,18 @@
 use Prim.Native.Nat.{ℕ, ◌<◌}
 use mathlib.Core.Path.{◌≡◌, refl, sym, ap, subst, ◌∙◌}
 use mathlib.Core.Logic.{inl, by_cases}
-use mathlib.Core.Bool.{Bool, true, false}
-use mathlib.Core.List.{[], ◌∷◌}
+use mathlib.Core.Bool.{true, false}
+use mathlib.Core.List.{List, [], ◌∷◌}
 use native.Mathlib.Decide.{dec_lt, ℕ_discrete}
 use native.Mathlib.Omega.{arith}
 use borrow.Author.Tests.{le-ltb}
+use Rattle.std.proofs.lemmas.Bool.{false_from_ne_true}
+use Rattle.std.proofs.lemmas.Option.{none-some, same_Some}
 use Rattle.wire.specs.Wire.{bytes_of}
 use Rattle.wire.specs.Address.{Source}
 use Rattle.network.specs.declared.Port.{Port}
 use Rattle.table.specs.declared.Entry.{Entry}
-use Rattle.table.specs.declared.Found.{Found}
-use Rattle.table.specs.declared.Found.TheVariants.{Entry as Here, Absent}
+use Rattle.std.specs.Prelude.{Some, None}
 use Rattle.table.specs.Table.{entry_of, lookup_of}
 use Rattle.table.proofs.Laws.{absent_iff, empty_absent}
 use Rattle.filter.specs.Filter.{empty, holds}
@@ -26,8 +27,7 @@ use Rattle.cabling.specs.Cabling.{Stands, most_ports}
 use Rattle.seat.specs.declared.Seat.{Seat}
 use Rattle.seat.specs.Seat.{cell_bytes, fresh_seat}
 use Rattle.seat.proofs.Laws.{unknown_host_floods}
-use Rattle.turn.specs.declared.Answer.{Answer}
-use Rattle.turn.specs.Turn.{host_arrival, host_of, plug_of}
+use Rattle.turn.specs.Turn.{Answer, host_arrival, host_of, plug_of}
 use Rattle.bench.specs.declared.Bench.{Bench}
 use Rattle.bench.specs.Bench.{in_flight, no_seat, seat_at}
 use Rattle.counters.specs.History.{Moment as Happened}
@@ -41,7 +41,7 @@ use Rattle.plug_in.proofs.Ours.{Ours, first_floods, first_found, first_held}
 use Rattle.plug_in.proofs.Reached.{Reached, host_at_lem, host_from}
 use Rattle.plug_in.proofs.Stand.{host_plugged, host_source, host_stands}
 use Rattle.plug_in.proofs.Stepping.{found_after, held_after, held_at, moment_in, records_in, start_in}
-use Rattle.plug_in.proofs.View.{found_in, head_beyond, head_inside, head_at, held_in, hops_of, moment, others_stay, records, same_found}
+use Rattle.plug_in.proofs.View.{found_in, head_beyond, head_inside, head_at, held_in, hops_of, found_elsewhere, moment, records}
 
 -- what arrives when host A sends to an address, and where
 abbrev pub home_in : Bench → ℕ → Port
@@ -72,24 +72,28 @@ module _ (b : Bench) (r : Reached b) (A to : ℕ) (there : A < b.network.nhosts)
   stands : Stands b.network (home_in b A)
   stands = host_stands b.network r.shape.described A there
 
-  -- no filter holds the frame
-  unheard : (t : ℕ) → held_in b.network b (triple (address_in b A) (nonce_in b A) 1) t ≡ false
-  unfolding held_in fresh_seat
-  unheard t = by_cases (dec_lt t b.network.nswitches) (λ h. by_test _ refl h) (λ h. beyond (head_at b.network b t) (head_beyond b.network b (omega arith)))
-    where
-      by_test : (held : Bool) → held_in b.network b (triple (address_in b A) (nonce_in b A) 1) t ≡ held → t < b.network.nswitches → held ≡ false
-      by_test false e h = refl
-      by_test true e h =
-          absurd (nowhere.records t h (held_names (seat_at b t).cells (seat_at b t).switch.setup.salt (triple (address_in b A) (nonce_in b A) 1) (bytes_of 6 (address_in b A)) refl
-          (sym (held_at b t h (triple (address_in b A) (nonce_in b A) 1)) ∙ e)))
+  -- filters know its frame by this
+  abbrev key : List ℕ
+  key = triple (address_in b A) (nonce_in b A) 1
 
-      beyond : (s : Seat) → s ≡ no_seat → holds s.cells s.switch.setup.salt (triple (address_in b A) (nonce_in b A) 1) ≡ false
+  -- no filter holds the frame
+  unheard : (t : ℕ) → held_in b.network b key t ≡ false
+  unfolding held_in fresh_seat
+  unheard t = by_cases (dec_lt t b.network.nswitches) (λ h. inside h) (λ h. beyond (head_at b.network b t) (head_beyond b.network b (omega arith)))
+    where
+      inside : t < b.network.nswitches → held_in b.network b key t ≡ false
+      inside h =
+          false_from_ne_true _
+          (λ e. nowhere.records t h (held_names (seat_at b t).cells (seat_at b t).switch.setup.salt key (bytes_of 6 (address_in b A)) refl
+          (sym (held_at b t h key) ∙ e)))
+
+      beyond : (s : Seat) → s ≡ no_seat → holds s.cells s.switch.setup.salt key ≡ false
       beyond s e =
-          ap (λ (s : Seat). holds s.cells s.switch.setup.salt (triple (address_in b A) (nonce_in b A) 1)) e
-          ∙ zeros_hold_none cell_bytes 0 (triple (address_in b A) (nonce_in b A) 1) (some_key (nonce_in b A) source)
+          ap (λ (s : Seat). holds s.cells s.switch.setup.salt key) e
+          ∙ zeros_hold_none cell_bytes 0 key (some_key (nonce_in b A) source)
 
   -- no table has an entry
-  unknown : (t : ℕ) → found_in b.network b (address_in b A) t ≡ Absent
+  unknown : (t : ℕ) → found_in b.network b (address_in b A) t ≡ None
   unfolding found_in fresh_seat
   unknown t =
       by_cases (dec_lt t b.network.nswitches)
@@ -108,7 +112,7 @@ module _ (b : Bench) (r : Reached b) (A to : ℕ) (there : A < b.network.nhosts)
   pub first_ours : Ours (address_in b A) (nonce_in b A) (first_in b A to)
   first_ours =
       record {
-        source = host_from (seat_at b (home_in b A).switch) (host_of b.network A) to;
+        source = host_from _ _ _;
         l = ap (λ (h : Header). h.l) header;
         f = ap (λ (h : Header). h.f) header;
         nonce = ap (λ (h : Header). h.nonce) header;
@@ -123,7 +127,7 @@ module _ (b : Bench) (r : Reached b) (A to : ℕ) (there : A < b.network.nhosts)
   -- at its port nothing but A is plugged in
   here_plugged : {p : Port} → p.switch ≡ (home_in b A).switch → p.number ≡ (first_in b A to).port → plug_of b.network (home_in b A).switch p.number ≡ OfHost A
   here_plugged {p} here at =
-      ap (plug_of b.network (home_in b A).switch) (at ∙ host_at_lem (seat_at b (home_in b A).switch) (host_of b.network A) to) ∙ host_plugged b.network r.shape.described A there
+      ap (plug_of b.network (home_in b A).switch) (at ∙ host_at_lem _ _ _) ∙ host_plugged b.network r.shape.described A there
 
   -- no cable is at its port
   no_cable : (e f : Port) → e.switch ≡ (home_in b A).switch → e.number ≡ (first_in b A to).port → Cable b.network b.up e f → ⊥
@@ -131,16 +135,16 @@ module _ (b : Bench) (r : Reached b) (A to : ℕ) (there : A < b.network.nhosts)
 
   -- its port is the flood's home
   home : Home (start_in b r (address_in b A) A) (home_in b A)
-  home = record { own = refl; outside = λ f cable. no_cable (home_in b A) f refl (sym (host_at_lem (seat_at b (home_in b A).switch) (host_of b.network A) to)) cable }
+  home = record { own = refl; outside = λ f cable. no_cable (home_in b A) f refl (sym (host_at_lem _ _ _)) cable }
 
   module _ {c : Bench} {told : Answer} (v : Steps b (home_in b A).switch (first_in b A to) (in_flight b) c told) where
     -- its switch learns A at its port, one hop away
-    entered : found_in b.network c (address_in b A) (home_in b A).switch ≡ Here (entry_of (home_in b A).number 1)
+    entered : found_in b.network c (address_in b A) (home_in b A).switch ≡ Some (entry_of (home_in b A).number 1)
     entered =
-        found_after b (home_in b A).switch (first_in b A to) (in_flight b) v stands.switch (address_in b A)
-        ∙ first_found b r (home_in b A).switch stands.switch (first_in b A to) first_ours young (unheard (home_in b A).switch) (λ e. source.nonzero (sym first_ours.source ∙ e))
-        ∙ ap (λ p. Here (entry_of p (first_in b A to).header.hc)) (host_at_lem (seat_at b (home_in b A).switch) (host_of b.network A) to)
-        ∙ ap (λ (h : Header). Here (entry_of (home_in b A).number h.hc)) header
+        found_after v stands.switch (address_in b A)
+        ∙ first_found r stands.switch first_ours young (unheard (home_in b A).switch) (λ e. source.nonzero (sym first_ours.source ∙ e))
+        ∙ ap (λ p. Some (entry_of p (first_in b A to).header.hc)) (host_at_lem _ _ _)
+        ∙ ap (λ (h : Header). Some (entry_of (home_in b A).number h.hc)) header
 
     -- and no other switch has a record
     root : Root (start_in b r (address_in b A) A) (home_in b A) (records_in b r (address_in b A) c)
@@ -149,16 +153,10 @@ module _ (b : Bench) (r : Reached b) (A to : ℕ) (there : A < b.network.nhosts)
         record {
           named = (1, entered);
           only = λ e n. by_cases (ℕ_discrete e.switch (home_in b A).switch)
-              (λ q. same_port q (ap (λ (e : Entry). e.port) (same_entry (sym n.1 ∙ ap (found_in b.network c (address_in b A)) q ∙ entered))))
-              (λ d. absurd (none_here (sym (unknown e.switch) ∙ sym (same_found b.network b c (address_in b A) e.switch (others_stay v e.switch d)) ∙ n.1)));
+              (λ q. same_port q (ap (λ (e : Entry). e.port) (same_Some _ _ (sym n.1 ∙ ap (found_in b.network c (address_in b A)) q ∙ entered))))
+              (λ d. absurd (none-some _ (sym (unknown e.switch) ∙ sym (found_elsewhere v (address_in b A) e.switch d) ∙ n.1)));
           hops = ap hops_of entered;
         }
-      where
-        same_entry : {e f : Entry} → ◌≡◌ {A = Found} (Here e) (Here f) → e ≡ f
-        same_entry q = cc
-
-        none_here : {e : Entry} → ◌≡◌ {A = Found} Absent (Here e) → ⊥
-        none_here q = let z : ◌≡◌ {A = ℕ} 0 1 = cc in omega arith
 
     -- its switch sends the frame on over all its cables
     begins : LosesNone (address_in b A) told → (m : Happened) → m.answer ≡ told
@@ -173,12 +171,12 @@ module _ (b : Bench) (r : Reached b) (A to : ℕ) (there : A < b.network.nhosts)
           quiet = λ p j w. (nowhere.copies.each w.copy w.there).0 w.mine;
           unsent = λ p. refl;
           sends =
-              sends_on b r A (address_in b A) (nonce_in b A) (home_in b A).switch (first_in b A to) (in_flight b) v stands.switch first_ours.source
-              (subst (λ p. p < most_ports) (sym (host_at_lem (seat_at b (home_in b A).switch) (host_of b.network A) to)) stands.few)
-              (first_floods b r (home_in b A).switch stands.switch (first_in b A to) first_ours young (unheard (home_in b A).switch))
+              sends_on r A (nonce_in b A) v stands.switch first_ours.source
+              (subst (λ p. p < most_ports) (sym (host_at_lem _ _ _)) stands.few)
+              (first_floods r stands.switch first_ours young (unheard (home_in b A).switch))
               1 (ap (λ (h : Header). h.hc) header)
-              (held_after b (home_in b A).switch (first_in b A to) (in_flight b) v stands.switch (triple (address_in b A) (nonce_in b A) 1)
-              ∙ first_held b r (home_in b A).switch stands.switch (first_in b A to) first_ours young (unheard (home_in b A).switch))
+              (held_after v stands.switch key
+              ∙ first_held r stands.switch first_ours young (unheard (home_in b A).switch))
               (subst (LosesNone (address_in b A)) v.answer room first_ours.source) (λ e. ⊥) no_cable
               (λ i l other e at here q. other (one_host (host_port b.network r.shape.described i l at here).1 (here_plugged here q)))
               (λ d m. m) (λ d m. inl m) [] m said;

@@ -49,9 +49,9 @@ module _ (s : State) (A : ℕ) (to : Address) (starts : Starts s A to) where
   carries : All (Carries (host_of s.bench.network A).address (nonce_in s.bench A)) (in_flight (after s (sends A to)).bench)
   unfolding address_of_host
   carries =
-      carried s.bench (home_in s.bench A).switch (first_in s.bench A (address_of to)) (in_flight s.bench) steps
+      carried steps
       (λ d m. record { away = λ _. (nowhere.copies.each d m).1; says = λ mine. absurd ((nowhere.copies.each d m).0 mine) }) (λ other. absurd (other ours.source))
-      (λ p named q. says (ours_sent s.bench known (home_in s.bench A).switch (host_stands s.bench.network known.shape.described A starts.host).switch (first_in s.bench A (address_of to)) ours p named))
+      (λ p named q. says (ours_sent known (host_stands s.bench.network known.shape.described A starts.host).switch ours p named))
     where
       ours : Ours (host_of s.bench.network A).address (nonce_in s.bench A) (first_in s.bench A (address_of to))
       ours = first_ours s.bench known A (address_of to) starts.host nowhere
@@ -72,7 +72,7 @@ module _ (s : State) (A : ℕ) (to : Address) (starts : Starts s A to) where
         address = refl;
         fine = known.shape.described;
         carries = carries;
-        counts = λ i l. ap (λ w. bit w + 0) (receives_as_sent s.bench known (home_in s.bench A).switch (first_in s.bench A (address_of to)) (in_flight s.bench) steps (host_of s.bench.network A).address i l);
+        counts = λ i l. ap (λ w. bit w + 0) (receives_as_sent known steps (host_of s.bench.network A).address i l);
         recording = begun s.bench known A (address_of to) starts.host nowhere steps room (happened s (sends A to)) refl;
       }
 
@@ -105,7 +105,7 @@ module _ {A x nonce : ℕ} {s : State} {h : List Happened} (v : Flowing s.bench.
   -- all switches joined to A have a record
   all_have : LimitsReach s.bench.network → NoneFlies x s.bench → AllHaveRecords x (host_of s.bench.network A).port.switch s.bench
   all_have limits none k j =
-      let to = joined s.bench.network s.bench.up v.fine s.bench refl refl j in
+      let to = joined s.bench v.fine j in
       recorded v (inside k to) ((leads v).all (suffice limits) (quiet none) k to)
 
   -- all other hosts on them have received one copy
@@ -113,7 +113,7 @@ module _ {A x nonce : ℕ} {s : State} {h : List Happened} (v : Flowing s.bench.
   unfolding moment home_of
   all_received limits none i there other j =
       v.counts i there
-      ∙ delivers.receives (suffice limits) (quiet none) (host_of s.bench.network i).port (joined s.bench.network s.bench.up v.fine s.bench refl refl j) (i, there, other, refl)
+      ∙ delivers.receives (suffice limits) (quiet none) (host_of s.bench.network i).port (joined s.bench v.fine j) (i, there, other, refl)
 
   -- all four claims
   pub claims : LimitsReach s.bench.network → PluggedIn A x (host_of s.bench.network A).port.switch s h

@@ -24,32 +24,19 @@ use Rattle.event.specs.declared.Event.TheVariants.{Take}
 use Rattle.bench.proofs.Laws.{fresh_seat_lem}
 use Rattle.counters.specs.History.{State, after, fresh_state, happens_at, history_of, run_of}
 use Rattle.counters.proofs.Laws.{InRun, event_in_run, fresh_in_run}
-use Rattle.table.specs.Table as table
-use Rattle.filter.specs.Filter as filter
 use Rattle.wire.specs.Wire as wire
-use Rattle.wire.specs.Address as addresses
-use Rattle.rules.specs.Mask as masks
-use Rattle.rules.specs.Rules as rule
-use Rattle.network.specs.Network as network
-use Rattle.network.specs.Checks as check
-use Rattle.cabling.specs.Cabling as cabling
 use Rattle.seat.specs.Seat as seat
-use Rattle.flight.specs.Flight as flight
 use Rattle.event.specs.Event as event
-use Rattle.turn.specs.Send as send
-use Rattle.turn.specs.Turn as turn
 use Rattle.bench.specs.Bench as bench
 use Rattle.bench.specs.Events as events
-use Rattle.counters.specs.Counters as counters
 use Rattle.plug_in.specs.Words as words
-use Rattle.plug_in.specs.Demand as demand
 use Rattle.plug_in.specs.Demand.{AllProvided, NoneFlies, PluggedIn, Starts, frame_of, sends}
 use Rattle.plug_in.specs.Words.{Cabled, HasRecord, JoinedTo, LimitsReach, LosesNone, NamesNowhere, address_of_host, home_of, receives_by, times}
 use Rattle.plug_in.proofs.Happening.{accepted_answer}
 use Rattle.plug_in.proofs.Laws.{first_plug_in}
 use Rattle.plug_in.proofs.Stand.{host_source}
 use Rattle.plug_in.proofs.Stands.{away, ring}
-use Rattle.plug_in.proofs.Trying.{all_free, all_keep, all_provided, ends, free, free_goes, is_free, leaves, loses, lost_none, provided, run_ends}
+use Rattle.plug_in.proofs.Trying.{all_free, all_keep, all_provided, checking, computing, ends, free, free_goes, is_free, leaves, loses, lost_none, provided, run_ends}
 
 -- ---- The ring and its run
 
@@ -77,7 +64,7 @@ end = ends fresh (first ∷ takings)
 -- ---- What is computed
 
 fine : network_fault ring ≡ 0
-unfolding ring addresses.is_source network.limit_of network.empty_network network.up_to network.switches_of network.hosts_of network.links_of network.records network.add network.built network.cleared check.any check.taken check.stands check.not_above check.too_many check.out_of_order check.switch_out check.out_of_range check.port_taken check.address_out check.bad_address check.record_fault check.records_fault check.network_fault
+unfolding ring checking
 fine = refl
 
 record Computed : Type 0 where
@@ -102,7 +89,7 @@ record Computed : Type 0 where
   pub home_2 : (home_of end 2).switch ≡ 2
 
 computed : Computed
-unfolding ring all_free all_provided all_keep ends leaves table.empty_table table.slot_of table.found_at table.lookup_of table.put table.slot_for table.learn_at table.learn_of table.erase_at table.erase_of filter.hash filter.cell_of filter.same filter.empty filter.standing filter.has_cell filter.holds filter.overwrites filter.recorded wire.number_after wire.number masks.names masks.all_but rule.rule2 rule.is_duplicate rule.rule3 rule.overwrote3 rule.erases rule.rule5 rule.learns rule.rule6 rule.learning rule.standing rule.rule9 rule.rule10 rule.rule11 rule.onward rule.forwarding rule.rules network.limit_of network.empty_network network.add network.built cabling.port_of cabling.plug_in cabling.plug_host cabling.plug_link cabling.plug_all cabling.plugs_of cabling.plug_at cabling.is_live cabling.is_hosts cabling.mask_of cabling.setup_of seat.fresh_seat seat.from_host seat.from_link seat.step_of flight.without flight.spared event.address_of send.joins send.receives send.send_on send.send_at send.send_from send.send_out turn.own_refusal turn.host_of turn.plug_of turn.outbox_of turn.steps turn.host_arrival turn.presents turn.port_to turn.copy_arrival turn.takes turn.sets turn.head_of turn.turn_of bench.in_flight bench.seat_at bench.fresh_heads bench.fresh_bench events.follow events.turn_in events.event_of counters.adds counters.plus rule.nonce_on words.holds_at words.address_of_host words.home_of demand.frame_of
+unfolding ring all_free all_provided all_keep ends leaves computing
 computed =
     record {
       hosts = refl;
@@ -149,7 +136,7 @@ limits (suc zero) h = omega (arith, computed.switches, computed.limit_1)
 limits (suc (suc zero)) h = omega (arith, computed.switches, computed.limit_2)
 limits (suc (suc (suc k))) h = absurd (omega (arith, computed.switches))
 
-starts : Starts fresh 0 (record { b0 = 0; b1 = 0; b2 = 0; b3 = 0; b4 = 0; b5 = 9 })
+starts : Starts fresh 0 away
 unfolding address_of_host run_of bench.fresh_bench event.address_of wire.number wire.number_after
 starts =
     record {
@@ -177,7 +164,7 @@ ends_there = run_ends in_run (first ∷ takings) computed.goes
 plugged_in : PluggedIn 0 sender home end (history_of fresh (first ∷ takings))
 plugged_in =
     subst (λ s. PluggedIn 0 sender home s (history_of fresh (first ∷ takings))) ends_there
-    (first_plug_in fresh 0 (record { b0 = 0; b1 = 0; b2 = 0; b3 = 0; b4 = 0; b5 = 9 }) takings starts room others)
+    (first_plug_in fresh 0 away takings starts room others)
 
 quiet : NoneFlies sender end.bench
 unfolding bench.in_flight

@@ -1,7 +1,7 @@
 -- A head that floods A's frame sends it on, in the flood's sense: over each of its live links but the one that it came over, and to each host but the one
 -- that it came from.
 use Prim.Native.Nat.{ℕ, ◌<◌}
-use mathlib.Core.Path.{◌≡◌, refl, sym, ap, subst, ◌∙◌}
+use mathlib.Core.Path.{◌≡◌, refl, sym, ap, ◌∙◌}
 use mathlib.Core.Logic.{◌⊎◌, ◌≢◌, inl, inr, ⊎_elim, by_cases}
 use mathlib.Core.Bool.{Bool, true, false, ◌&&◌}
 use mathlib.Core.List.{List, [], ◌∷◌, ◌++◌, Memᴰ}
@@ -27,9 +27,8 @@ use Rattle.cabling.specs.Cabling.{is_live, most_ports, other_end}
 use Rattle.cabling.proofs.Laws.{port_stands}
 use Rattle.seat.proofs.Laws.{step_mask_live}
 use Rattle.flight.specs.declared.Copy.{Copy}
-use Rattle.turn.specs.declared.Answer.{Answer}
 use Rattle.turn.specs.Send.{copy_to}
-use Rattle.turn.specs.Turn.{host_of, plug_of, port_to}
+use Rattle.turn.specs.Turn.{Answer, host_of, plug_of, port_to}
 use Rattle.bench.specs.declared.Bench.{Bench}
 use Rattle.bench.specs.Bench.{in_flight, seat_at}
 use Rattle.counters.specs.History.{Moment as Happened}
@@ -41,29 +40,23 @@ use Rattle.plug_in.proofs.Reached.{Reached}
 use Rattle.plug_in.proofs.Sent.{WentOut}
 use Rattle.plug_in.proofs.Stand.{end_plugged, end_there, host_plugged, host_stands, live_is}
 use Rattle.plug_in.proofs.Stepping.{mesh_in, moment_in, sends_is, start_in, times_few, times_not, times_one}
-use Rattle.plug_in.proofs.View.{Flies, held_in, moment, others_stay, same_held}
+use Rattle.plug_in.proofs.View.{Flies, held_elsewhere, held_in, moment, still_flies}
 
 -- ---- What is plugged into a port that there is
 
 -- a live port's plug is live
-pub plug_live : (b : Bench) → Reached b → (k : ℕ) → k < b.network.nswitches → (p : ℕ) → names (seat_at b k).switch.setup.live p ≡ is_live b.up (plug_of b.network k p)
+plug_live : (b : Bench) → Reached b → (k : ℕ) → k < b.network.nswitches → (p : ℕ) → names (seat_at b k).switch.setup.live p ≡ is_live b.up (plug_of b.network k p)
 plug_live b r k inside p =
     ap (λ (s : Setup). names s.live p) (r.shape.seats k inside).setup ∙ live_is b.network r.shape.described b.up k p
 
 -- a host's port has its plug, and is live
 pub host_port : (n : Network) → network_fault n ≡ 0 → (i : ℕ) → i < n.nhosts → {p : Port} → (host_of n i).port ≡ p → {k : ℕ} → p.switch ≡ k → (p.number < most_ports) × (plug_of n k p.number ≡ OfHost i)
-host_port n fine i there {p} at here = (
-  subst (λ (p : Port). p.number < most_ports) at (host_stands n fine i there).few,
-  subst (λ k. plug_of n k p.number ≡ OfHost i) here (subst (λ (p : Port). plug_of n p.switch p.number ≡ OfHost i) at (host_plugged n fine i there)),
-)
+host_port n fine i there at here = rw (← here, ← at) ((host_stands n fine i there).few, host_plugged n fine i there)
 
 -- so has the port of a live cable
 pub cable_port : (n : Network) → network_fault n ≡ 0 → (up : List Bool) {p q : Port} (c : Cable n up p q) {k : ℕ} → p.switch ≡ k
     → (p.number < most_ports) × (plug_of n k p.number ≡ OfLink c.near)
-cable_port n fine up {p} c here = (
-  subst (λ (p : Port). p.number < most_ports) c.from (port_stands n fine c.near c.there).few,
-  subst (λ k. plug_of n k p.number ≡ OfLink c.near) here (subst (λ (p : Port). plug_of n p.switch p.number ≡ OfLink c.near) c.from (end_plugged n fine c.near c.there)),
-)
+cable_port n fine up c here = rw (← here, ← c.from) ((port_stands n fine c.near c.there).few, end_plugged n fine c.near c.there)
 
 -- a host's plug is no link's, nor another host's
 pub host_or_link : {i : ℕ} {e : End} {plug : Plug} → plug ≡ OfHost i → plug ≡ OfLink e → ⊥
@@ -85,7 +78,7 @@ live_link up e = rw e
 
 -- ---- The step
 
-module _ (b : Bench) (r : Reached b) (A x nonce k : ℕ) (a : Arrival) (rest : List Copy) {c : Bench} {told : Answer} (v : Steps b k a rest c told)
+module _ {b : Bench} (r : Reached b) (A : ℕ) {x : ℕ} (nonce : ℕ) {k : ℕ} {a : Arrival} {rest : List Copy} {c : Bench} {told : Answer} (v : Steps b k a rest c told)
     (inside : k < b.network.nswitches) (mine : a.source ≡ x) (port : a.port < most_ports) (floods : sent_in b k a ≡ sends (flood (seat_at b k).switch.setup a) a.header) where
   -- each live port but the arrival port sends
   flooded : (p : ℕ) → p < most_ports → p ≢ a.port → is_live b.up (plug_of b.network k p) ≡ true → names (sent_in b k a).mask p ≡ true
@@ -96,7 +89,7 @@ module _ (b : Bench) (r : Reached b) (A x nonce k : ℕ) (a : Arrival) (rest : L
 
   -- the answer tells which ports of the head sent the frame
   says : (m : Happened) → m.answer ≡ told → (t p : ℕ) → sends_by x t p m.answer ≡ (eqb k t && names (sent_in b k a).mask p)
-  says m said t p = ap (sends_by x t p) said ∙ sends_is b k a rest v x t p ∙ rw (eq-eqb a.source x mine)
+  says m said t p = ap (sends_by x t p) said ∙ sends_is v x t p ∙ rw (eq-eqb a.source x mine)
 
   -- a new copy came over a live link of the head
   reaches : {p : Port} {j : ℕ} (w : Flies b.network x c p j) → WentOut (plug_of b.network k) a (sent_in b k a).mask (sent_in b k a).header w.copy
@@ -131,7 +124,7 @@ module _ (b : Bench) (r : Reached b) (A x nonce k : ℕ) (a : Arrival) (rest : L
         let p = cable_port b.network r.shape.described b.up cable here in
         record {
           copy = copy_to (other_end cable.near) a (sent_in b k a).header;
-          there = step_placed b k a rest v e.number p.0 (flooded e.number p.0 other (live_link b.up p.1 ∙ cable.live)) p.1 room;
+          there = step_placed v e.number p.0 (flooded e.number p.0 other (live_link b.up p.1 ∙ cable.live)) p.1 room;
           mine = mine;
           to = cable.to;
           hops = ap (λ (s : Send). s.header.hc) floods ∙ count;
@@ -145,12 +138,10 @@ module _ (b : Bench) (r : Reached b) (A x nonce k : ℕ) (a : Arrival) (rest : L
     sends_on h m said =
         record {
           noted = held;
-          others = λ t d. same_held b.network b c (triple x nonce 1) t (others_stay v t d);
+          others = λ t d. held_elsewhere v (triple x nonce 1) t d;
           placed = λ e f here cable. by_cases (ℕ_discrete e.number a.port) (λ q. inl (spare e f here q cable)) (λ q. inr (carried e f here q cable));
-          only = λ f j w. ⊎_elim (λ o. inl (record { copy = w.copy; there = were w.copy o; mine = w.mine; to = w.to; hops = w.hops }))
-              (λ o. let z = reaches w o in inr (z.0, z.1 ∙ count)) (step_new b k a rest v w.there);
-          gone = λ f j w. ⊎_elim (λ o. inl (record { copy = w.copy; there = step_kept b k a rest v o; mine = w.mine; to = w.to; hops = w.hops }))
-              (λ o. inr (sym (ap (λ (p : Port). p.switch) w.to) ∙ o)) (left w.copy w.there);
+          only = λ f j w. ⊎_elim (λ o. inl (still_flies w (were w.copy o))) (λ o. let z = reaches w o in inr (z.0, z.1 ∙ count)) (step_new v w.there);
+          gone = λ f j w. ⊎_elim (λ o. inl (still_flies w (step_kept v o))) (λ o. inr (sym (ap (λ (p : Port). p.switch) w.to) ∙ o)) (left w.copy w.there);
           at_most = λ e here. let few = times_few (sends_by x e.switch e.number) h m in omega arith;
           due = λ e here d. let one = times_one (sends_by x e.switch e.number) h m (owed e here d) in omega arith;
           silent = λ e d. times_not (sends_by x e.switch e.number) h m (says m said e.switch e.number ∙ rw (ne_eqb k e.switch (λ q. d (sym q))));

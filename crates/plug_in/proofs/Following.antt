@@ -6,7 +6,7 @@ use mathlib.Core.List.Memᴰ
 use mathlib.Core.List.{List, [], ◌∷◌, Memᴰ}
 use native.Mathlib.Omega.{arith}
 use Rattle.network.specs.declared.Port.{Port}
-use Rattle.table.specs.declared.Found.TheVariants.{Entry as Here}
+use Rattle.std.specs.Prelude.{Some}
 use Rattle.table.specs.Table.{entry_of}
 use Rattle.filter.specs.Triple.{triple}
 use Rattle.cabling.specs.declared.Plug.TheVariants.{Host as OfHost}
@@ -34,7 +34,7 @@ module _ {A x nonce : ℕ} {s : State} {h : List Happened} (v : Flowing s.bench.
   hops k = hops_of (found_in s.bench.network s.bench x k)
 
   -- a record is one in the flood's sense, and the other way round
-  found : {k : ℕ} (r : HasRecord x s.bench k) → found_in s.bench.network s.bench x k ≡ Here r.entry
+  found : {k : ℕ} (r : HasRecord x s.bench k) → found_in s.bench.network s.bench x k ≡ Some r.entry
   found {k} r = found_at s.bench k r.in_stand x ∙ r.found
 
   -- one in the flood's sense is a record
@@ -54,14 +54,18 @@ module _ {A x nonce : ℕ} {s : State} {h : List Happened} (v : Flowing s.bench.
   unfolding records
   down {k} r = leads.down (record { switch = k; number = r.entry.port }) (r.entry.hops, found r)
 
-  -- the way from a switch, on which none has more hops than it
-  way : (fuel k : ℕ) → hops k < fuel → HasRecord x s.bench k → (ks : List ℕ) × Way A x s.bench k ks × NoneTwice ks × ((j : ℕ) → Memᴰ j ks → hops j ≤ hops k)
+  -- a way from a switch, on which none has more hops than it
+  abbrev WayFrom : ℕ → Type 0
+  WayFrom k = (ks : List ℕ) × Way A x s.bench k ks × NoneTwice ks × ((j : ℕ) → Memᴰ j ks → hops j ≤ hops k)
+
+  -- there is one from each that has a record
+  way : (fuel k : ℕ) → hops k < fuel → HasRecord x s.bench k → WayFrom k
   unfolding records hops
   way zero k few r = absurd (omega arith)
   way (suc fuel) k few r = ⊎_elim ends (on (way fuel)) (down r)
     where
       ends : ◌≡◌ {A = Port} (record { switch = k; number = r.entry.port }) (host_of s.bench.network A).port
-          → (ks : List ℕ) × Way A x s.bench k ks × NoneTwice ks × ((j : ℕ) → Memᴰ j ks → hops j ≤ hops k)
+          → WayFrom k
       ends e = (
         k ∷ [],
         words.home r (subst (λ (p : Port). plug_of s.bench.network p.switch p.number ≡ OfHost A) (sym e) (host_plugged s.bench.network v.fine A v.there)),
@@ -69,9 +73,9 @@ module _ {A x nonce : ℕ} {s : State} {h : List Happened} (v : Flowing s.bench.
         λ j m. ⊎_elim (λ q. omega (arith, ap hops q)) (λ n. absurd (Memᴰ.not-nil n)) (Memᴰ.cases_cons m),
       )
 
-      on : ((t : ℕ) → hops t < fuel → HasRecord x s.bench t → (ks : List ℕ) × Way A x s.bench t ks × NoneTwice ks × ((j : ℕ) → Memᴰ j ks → hops j ≤ hops t))
+      on : ((t : ℕ) → hops t < fuel → HasRecord x s.bench t → WayFrom t)
           → Down (records s.bench.network s.bench.up v.fine x s.bench) (record { switch = k; number = r.entry.port })
-          → (ks : List ℕ) × Way A x s.bench k ks × NoneTwice ks × ((j : ℕ) → Memᴰ j ks → hops j ≤ hops k)
+          → WayFrom k
       on go d =
           let inside = cable_inside s.bench.network s.bench.up v.fine d.far _ (cable_back s.bench.network s.bench.up _ d.far d.cable) in
           let fewer : hops d.far.switch < hops k = d.fewer in

@@ -5,6 +5,7 @@ use mathlib.Core.Logic.{◌⊎◌, ◌≢◌}
 use mathlib.Core.Bool.{Bool, true, false, cond, not}
 use mathlib.Core.List.{List, Memᴰ}
 use native.Mathlib.Omega.{arith}
+use Rattle.std.proofs.lemmas.Bool.Decides.{nat_tests}
 use lib.Dec.{leb}
 use lib.ListN.{set}
 use Rattle.refusal.specs.Refusal.{first}
@@ -24,17 +25,17 @@ use Rattle.event.specs.declared.Event.TheVariants.{Present, Take, Link}
 use Rattle.event.specs.declared.Presented.{Presented}
 use Rattle.event.specs.declared.Setting.{Setting}
 use Rattle.event.specs.Event.{address_of}
-use Rattle.turn.specs.declared.Answer.{Answer}
-use Rattle.turn.specs.declared.Answer.TheVariants.{Refused, Stepped}
+use Rattle.std.specs.Prelude.{Ok, Err}
+use Rattle.turn.specs.declared.Done.TheVariants.{Stepped}
 use Rattle.turn.specs.Send.{Outbox, copy_to}
-use Rattle.turn.specs.Turn.{copy_arrival, copy_at, head_of, host_arrival, host_of, is_up, outbox_of, own_causes, own_refusal, plug_of, port_to, presents, sets, spared_by, step_report, steps, takes, turn_of}
+use Rattle.turn.specs.Turn.{Answer, copy_arrival, copy_at, head_of, host_arrival, host_of, is_up, outbox_of, own_causes, own_refusal, plug_of, port_to, presents, sets, spared_by, step_report, steps, takes, turn_of}
 use Rattle.bench.specs.declared.Bench.{Bench}
 use Rattle.bench.specs.Bench.{in_flight, seat_at}
 use Rattle.bench.specs.Events.{event_of, turn_in}
 use Rattle.bench.specs.Shape.{Accepted, Sized, in_shape}
 use Rattle.bench.proofs.Laws.{each_is_the_step, event_answer, event_network, event_up, heads_follow, in_flight_after, nothing_else_changes}
 use Rattle.counters.specs.Counters.{counters_fit}
-use Rattle.counters.specs.Event.{event_refusal, happens_of, most_events}
+use Rattle.counters.specs.Event.{event_refusal, happens_of, most_events, refusal_numbered}
 use Rattle.counters.specs.History.{State, after, happens_at}
 use Rattle.plug_in.proofs.Sent.{WentOut, kept_out, new_out, placed_out, received_out, unplugged_out}
 
@@ -47,7 +48,7 @@ module _ (s : State) (e : Event) where
   refused_bench some = sym (refused_leaves refl some _ _)
 
   -- its answer is its number
-  pub refused_answer : event_refusal s.bench s.counters e ≢ 0 → (happens_at s e).happened.answer ≡ Refused (event_refusal s.bench s.counters e)
+  pub refused_answer : event_refusal s.bench s.counters e ≢ 0 → (happens_at s e).happened.answer ≡ Err (refusal_numbered (event_refusal s.bench s.counters e))
   unfolding happens_of
   refused_answer some = sym (refused_leaves refl some _ _)
 
@@ -67,10 +68,7 @@ module _ (s : State) (e : Event) where
   accepted_own = behind (leb most_events s.counters.accepted) (not (in_shape s.bench)) (not (counters_fit s.bench.flying s.counters)) (first (own_causes s.bench.network s.bench.flying e))
     where
       behind : (a b c : Bool) (n : ℕ) → cond a 34 (cond b 28 (cond c 28 n)) ≡ 0 → n ≡ 0
-      behind true b c n z = absurd (omega arith)
-      behind false true c n z = absurd (omega arith)
-      behind false false true n z = absurd (omega arith)
-      behind false false false n z = z
+      behind a b c n z = grind (arith, nat_tests)
 
 -- ---- A head steps
 
@@ -81,7 +79,7 @@ pub record Steps (b : Bench) (k : ℕ) (a : Arrival) (rest : List Copy) (c : Ben
   pub seat : seat_at c k ≡ (step_of (seat_at b k) a).seat
   pub others : (j : ℕ) → j < b.network.nswitches → j ≢ k → seat_at c j ≡ seat_at b j
   pub flying : in_flight c ≡ (outbox_of b.network k (step_of (seat_at b k) a) a rest).flying
-  pub answer : told ≡ Stepped (step_report k a (step_of (seat_at b k) a) (outbox_of b.network k (step_of (seat_at b k) a) a rest))
+  pub answer : told ≡ Ok (Stepped (step_report k a (step_of (seat_at b k) a) (outbox_of b.network k (step_of (seat_at b k) a) a rest)))
 
 -- link l of bench b was set: each head follows, and the copies that its state spares are left
 pub record Sets (b : Bench) (l : ℕ) (state : Bool) (c : Bench) : Type 0 where
@@ -135,7 +133,7 @@ sent_in b k a = sent_by (sending_of (step_of (seat_at b k) a).report.verdict)
 abbrev pub out_in : Bench → ℕ → Arrival → List Copy → Outbox
 out_in b k a rest = outbox_of b.network k (step_of (seat_at b k) a) a rest
 
-module _ (b : Bench) (k : ℕ) (a : Arrival) (rest : List Copy) where
+module _ {b : Bench} {k : ℕ} {a : Arrival} {rest : List Copy} {c : Bench} {told : Answer} (v : Steps b k a rest c told) where
   -- a host that is plugged in at port p of head k alone receives exactly if p sends
   pub step_received : (i p : ℕ) → p < most_ports → plug_of b.network k p ≡ OfHost i → ((q : ℕ) → plug_of b.network k q ≡ OfHost i → q ≡ p)
       → names (out_in b k a rest).received i ≡ names (sent_in b k a).mask p
@@ -147,21 +145,19 @@ module _ (b : Bench) (k : ℕ) (a : Arrival) (rest : List Copy) where
   unfolding outbox_of
   step_unplugged = unplugged_out (plug_of b.network k) a (sending_of (step_of (seat_at b k) a).report.verdict) rest
 
-  module _ {c : Bench} {told : Answer} (v : Steps b k a rest c told) where
-    -- a copy that was in flight still is
-    pub step_kept : {d : Copy} → Memᴰ d rest → Memᴰ d (in_flight c)
-    unfolding outbox_of
-    step_kept {d} m = subst (λ ds. Memᴰ d ds) (sym v.flying) (kept_out (plug_of b.network k) a (sending_of (step_of (seat_at b k) a).report.verdict) rest m)
+  -- a copy that was in flight still is
+  pub step_kept : {d : Copy} → Memᴰ d rest → Memᴰ d (in_flight c)
+  unfolding outbox_of
+  step_kept {d} m = subst (Memᴰ d) (sym v.flying) (kept_out (plug_of b.network k) a (sending_of (step_of (seat_at b k) a).report.verdict) rest m)
 
-    -- any other went out at a port that the mask names
-    pub step_new : {d : Copy} → Memᴰ d (in_flight c) → Memᴰ d rest ⊎ WentOut (plug_of b.network k) a (sent_in b k a).mask (sent_in b k a).header d
-    unfolding outbox_of
-    step_new {d} m = new_out (plug_of b.network k) a (sending_of (step_of (seat_at b k) a).report.verdict) rest (subst (λ ds. Memᴰ d ds) v.flying m)
+  -- any other went out at a port that the mask names
+  pub step_new : {d : Copy} → Memᴰ d (in_flight c) → Memᴰ d rest ⊎ WentOut (plug_of b.network k) a (sent_in b k a).mask (sent_in b k a).header d
+  unfolding outbox_of
+  step_new {d} m = new_out (plug_of b.network k) a (sending_of (step_of (seat_at b k) a).report.verdict) rest (subst (Memᴰ d) v.flying m)
 
-    -- and if none is lost, one goes over the link of each such port
-    pub step_placed : (p : ℕ) {e : End} → p < most_ports → names (sent_in b k a).mask p ≡ true → plug_of b.network k p ≡ OfLink e → (out_in b k a rest).lost ≡ 0
-        → Memᴰ (copy_to (other_end e) a (sent_in b k a).header) (in_flight c)
-    unfolding outbox_of
-    step_placed p {e} within named there none =
-        subst (λ ds. Memᴰ (copy_to (other_end e) a (sent_in b k a).header) ds) (sym v.flying)
-        (placed_out (plug_of b.network k) a (sending_of (step_of (seat_at b k) a).report.verdict) rest p within named there none)
+  -- and if none is lost, one goes over the link of each such port
+  pub step_placed : (p : ℕ) {e : End} → p < most_ports → names (sent_in b k a).mask p ≡ true → plug_of b.network k p ≡ OfLink e → (out_in b k a rest).lost ≡ 0
+      → Memᴰ (copy_to (other_end e) a (sent_in b k a).header) (in_flight c)
+  unfolding outbox_of
+  step_placed p within named there none =
+      subst (Memᴰ _) (sym v.flying) (placed_out (plug_of b.network k) a (sending_of (step_of (seat_at b k) a).report.verdict) rest p within named there none)

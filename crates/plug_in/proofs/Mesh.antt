@@ -1,6 +1,6 @@
 -- The mesh of a stand: its ports are the ends, and a link that is up is a live cable between the ports at its two ends.
 use Prim.Native.Nat.{ℕ, ◌<◌}
-use mathlib.Core.Path.{◌≡◌, refl, sym, ap, subst, ◌∙◌}
+use mathlib.Core.Path.{◌≡◌, refl, sym, ap, ◌∙◌}
 use mathlib.Core.Bool.{Bool, true, false}
 use mathlib.Core.List.{List}
 use lib.ListN.{get_or}
@@ -69,24 +69,17 @@ module _ (n : Network) (up : List Bool) where
           inside = cable_inside;
         }
 
-    -- what the order calls joined is joined in the mesh
-    pub joined : (b : Bench) → b.network ≡ n → b.up ≡ up → {k t : ℕ} → JoinedTo b k t → Joined mesh k t
-    joined b same_network same_up words.here = flood.here
-    joined b same_network same_up (words.over j c) = flood.over (joined b same_network same_up j) (across c)
-      where
-        across : {k t : ℕ} → Cabled b k t → Across mesh k t
-        across c =
-            record {
-              near = port_of n c.near;
-              far = port_of n (other_end c.near);
-              leaves = sym (ap (λ m. (port_of m c.near).switch) same_network) ∙ c.from;
-              cable =
-                  record {
-                    near = c.near;
-                    there = subst (λ m. c.near.link < m.nlinks) same_network c.there;
-                    live = sym (ap (λ u. get_or u c.near.link false) same_up) ∙ c.live;
-                    from = refl;
-                    to = refl;
-                  };
-              arrives = sym (ap (λ m. (port_of m (other_end c.near)).switch) same_network) ∙ c.to;
-            }
+-- what the order calls joined is joined in the mesh
+pub joined : (b : Bench) (fine : network_fault b.network ≡ 0) {k t : ℕ} → JoinedTo b k t → Joined (mesh b.network b.up fine) k t
+joined b fine words.here = flood.here
+joined b fine (words.over j c) = flood.over (joined b fine j) (across c)
+  where
+    across : {k t : ℕ} → Cabled b k t → Across (mesh b.network b.up fine) k t
+    across c =
+        record {
+          near = port_of b.network c.near;
+          far = port_of b.network (other_end c.near);
+          leaves = c.from;
+          cable = record { near = c.near; there = c.there; live = c.live; from = refl; to = refl };
+          arrives = c.to;
+        }

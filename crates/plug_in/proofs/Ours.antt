@@ -2,13 +2,14 @@
 -- record if it has come by fewer hops; else it is recorded, learned and flooded.
 use Prim.Native.Nat.{ℕ, ◌≤◌, ◌<◌}
 use mathlib.Core.Path.{◌≡◌, refl, sym, ap, subst, ◌∙◌}
-use mathlib.Core.Logic.{◌⊎◌, ◌≢◌, inl, inr, by_cases}
-use mathlib.Core.Bool.{Bool, true, false, true≢false}
+use mathlib.Core.Logic.{◌⊎◌, ◌≢◌, inl, inr, ⊎_elim, by_cases}
+use mathlib.Core.Bool.{Bool, true, false}
+use Rattle.std.proofs.lemmas.Bool.{both_ways, cases_Bool}
 use native.Mathlib.Decide.{dec_lt}
 use native.Mathlib.Omega.{arith}
+use Rattle.std.proofs.lemmas.Option.{none-some, same_Some}
 use Rattle.table.specs.declared.Entry.{Entry}
-use Rattle.table.specs.declared.Found.{Found}
-use Rattle.table.specs.declared.Found.TheVariants.{Entry as Here, Absent}
+use Rattle.std.specs.Prelude.{Option, Some, None}
 use Rattle.table.specs.Table.{Sized, entry_of, lookup_of}
 use Rattle.filter.specs.Triple.{triple}
 use Rattle.frame.specs.Header.{bit}
@@ -36,19 +37,24 @@ pub record Ours (x next : ℕ) (a : Arrival) : Type 0 where
   pub f : a.header.f ≡ true
   pub nonce : a.header.nonce ≡ next
 
+-- the record of an address moves to where a copy arrives, which has come by no more hops
+pub record Moves (b : Bench) (k : ℕ) (a : Arrival) (x : ℕ) : Type 0 where
+  pub entry : lookup_of (ruled b k a).table x ≡ Some (entry_of a.port a.header.hc)
+  pub nearer : (e : Entry) → lookup_of (seat_at b k).switch.table x ≡ Some e → a.header.hc ≤ e.hops
+
 -- filters know it by its key
-pub ours_key : {x nonce : ℕ} {a : Arrival} → Ours x nonce a → triple_of a a.header ≡ triple x nonce 1
+ours_key : {x nonce : ℕ} {a : Arrival} → Ours x nonce a → triple_of a a.header ≡ triple x nonce 1
 ours_key {x} {nonce} {a} o =
     ap (λ y. triple y a.header.nonce (bit a.header.l)) o.source ∙ ap (λ y. triple x y (bit a.header.l)) o.nonce ∙ ap (λ y. triple x nonce (bit y)) o.l
 
-module _ (b : Bench) (r : Reached b) (k : ℕ) (inside : k < b.network.nswitches) (a : Arrival) where
+module _ {b : Bench} (r : Reached b) {k : ℕ} (inside : k < b.network.nswitches) where
   -- what a verdict sends
-  pub verdict_sends : {w : Verdict} → (ruled b k a).report.verdict ≡ w → sent_in b k a ≡ sent_by (sending_of w)
-  verdict_sends e = ap (λ w. sent_by (sending_of w)) (ap (λ (p : Report). p.verdict) (step_report_lem (seat_at b k) a) ∙ e)
+  verdict_sends : (a : Arrival) {w : Verdict} → (ruled b k a).report.verdict ≡ w → sent_in b k a ≡ sent_by (sending_of w)
+  verdict_sends a e = ap (λ w. sent_by (sending_of w)) (ap (λ (p : Report). p.verdict) (step_report_lem (seat_at b k) a) ∙ e)
 
-  module _ {x nonce : ℕ} (o : Ours x nonce a) where
+  module _ {x nonce : ℕ} {a : Arrival} (o : Ours x nonce a) where
     -- the filter tells if it was heard before
-    pub heard_is : heard (seat_at b k).switch.setup (seat_at b k).cells a ≡ held_in b.network b (triple x nonce 1) k
+    heard_is : heard (seat_at b k).switch.setup (seat_at b k).cells a ≡ held_in b.network b (triple x nonce 1) k
     heard_is = ap (keeps b k (seat_at b k).cells) (ours_key o) ∙ sym (held_at b k inside (triple x nonce 1))
 
     -- ---- Too old
@@ -56,7 +62,7 @@ module _ (b : Bench) (r : Reached b) (k : ℕ) (inside : k < b.network.nswitches
     module _ (old : too_old (seat_at b k).switch.setup a ≡ true) where
       -- nothing is sent
       pub old_silent : (p : ℕ) → names (sent_in b k a).mask p ≡ false
-      old_silent p = ap (λ s. names s.mask p) (verdict_sends (ap (λ w. w.report.verdict) (flood_old _ _ _ a old o.f))) ∙ names_nothing p
+      old_silent p = ap (λ s. names s.mask p) (verdict_sends a (ap (λ w. w.report.verdict) (flood_old _ _ _ a old o.f))) ∙ names_nothing p
 
       -- the filter stays
       pub old_filter : (ruled b k a).filter ≡ (seat_at b k).cells
@@ -79,8 +85,8 @@ module _ (b : Bench) (r : Reached b) (k : ℕ) (inside : k < b.network.nswitches
 
       -- what is learned
       learned : a.source ≢ 0 → learns a (heard (seat_at b k).switch.setup (seat_at b k).cells a) (lookup_of (seat_at b k).switch.table a.source) ≡ true
-          → lookup_of (ruled b k a).table x ≡ Here (entry_of a.port a.header.hc)
-      learned some e = subst (λ y. lookup_of (ruled b k a).table y ≡ Here (entry_of a.port a.header.hc)) o.source (flood_learned _ _ _ a floods sized some e (has_room b k inside r a))
+          → lookup_of (ruled b k a).table x ≡ Some (entry_of a.port a.header.hc)
+      learned some e = subst (λ y. lookup_of (ruled b k a).table y ≡ Some (entry_of a.port a.header.hc)) o.source (flood_learned _ _ _ a floods sized some e (has_room b k inside r a))
 
       -- ---- heard before
 
@@ -91,40 +97,32 @@ module _ (b : Bench) (r : Reached b) (k : ℕ) (inside : k < b.network.nswitches
 
         -- nothing is sent
         pub again_silent : (p : ℕ) → names (sent_in b k a).mask p ≡ false
-        again_silent p = ap (λ s. names s.mask p) (verdict_sends (flood_again _ _ _ a floods was)) ∙ names_nothing p
+        again_silent p = ap (λ s. names s.mask p) (verdict_sends a (flood_again _ _ _ a floods was)) ∙ names_nothing p
 
         -- the filter stays
         pub again_filter : (ruled b k a).filter ≡ (seat_at b k).cells
         again_filter = flood_again_filter _ _ _ a floods was
 
         -- the record stays, or moves to where this copy came from, by fewer hops
-        pub again_found : a.source ≢ 0
-            → (lookup_of (ruled b k a).table x ≡ lookup_of (seat_at b k).switch.table x)
-            ⊎ ((lookup_of (ruled b k a).table x ≡ Here (entry_of a.port a.header.hc))
-            × ((e : Entry) → lookup_of (seat_at b k).switch.table x ≡ Here e → a.header.hc ≤ e.hops))
+        pub again_found : a.source ≢ 0 → (lookup_of (ruled b k a).table x ≡ lookup_of (seat_at b k).switch.table x) ⊎ Moves b k a x
         again_found some = by_found (lookup_of (seat_at b k).switch.table a.source) refl
           where
             here : lookup_of (seat_at b k).switch.table a.source ≡ lookup_of (seat_at b k).switch.table x
             here = ap (lookup_of (seat_at b k).switch.table) o.source
 
-            tells : {found : Found} → lookup_of (seat_at b k).switch.table a.source ≡ found → {v : Bool} → learns a true found ≡ v
+            tells : {found : Option Entry} → lookup_of (seat_at b k).switch.table a.source ≡ found → {v : Bool} → learns a true found ≡ v
                 → learns a (heard (seat_at b k).switch.setup (seat_at b k).cells a) (lookup_of (seat_at b k).switch.table a.source) ≡ v
             tells {found} e q = ap (λ w. learns a w (lookup_of (seat_at b k).switch.table a.source)) was ∙ ap (learns a true) e ∙ q
 
-            absent_here : {e : Entry} → ◌≡◌ {A = Found} Absent (Here e) → ⊥
-            absent_here q = let z : ◌≡◌ {A = ℕ} 0 1 = cc in omega arith
-
-            same_entry : {e f : Entry} → ◌≡◌ {A = Found} (Here e) (Here f) → e ≡ f
-            same_entry q = cc
-
-            by_found : (found : Found) → lookup_of (seat_at b k).switch.table a.source ≡ found
-                → (lookup_of (ruled b k a).table x ≡ lookup_of (seat_at b k).switch.table x)
-                ⊎ ((lookup_of (ruled b k a).table x ≡ Here (entry_of a.port a.header.hc))
-                × ((e : Entry) → lookup_of (seat_at b k).switch.table x ≡ Here e → a.header.hc ≤ e.hops))
-            by_found Absent e = inr (learned some (tells e (learns_absent a true)), λ f q. absurd (absent_here (sym e ∙ here ∙ q)))
-            by_found (Here f) e =
+            by_found : (found : Option Entry) → lookup_of (seat_at b k).switch.table a.source ≡ found
+                → (lookup_of (ruled b k a).table x ≡ lookup_of (seat_at b k).switch.table x) ⊎ Moves b k a x
+            by_found None e = inr (record { entry = learned some (tells e (learns_absent a true)); nearer = λ f q. absurd (none-some _ (sym e ∙ here ∙ q)) })
+            by_found (Some f) e =
                 by_cases (dec_lt a.header.hc f.hops)
-                (λ nearer. inr (learned some (tells e (learns_nearer a true f nearer)), λ g q. let same : f.hops ≡ g.hops = ap (λ (e : Entry). e.hops) (same_entry (sym e ∙ here ∙ q)) in omega arith))
+                (λ near. inr (record {
+                  entry = learned some (tells e (learns_nearer a true f near));
+                  nearer = λ g q. let same : f.hops ≡ g.hops = ap (λ (e : Entry). e.hops) (same_Some _ _ (sym e ∙ here ∙ q)) in omega arith;
+                }))
                 (λ far. inl (subst (λ y. lookup_of (ruled b k a).table y ≡ lookup_of (seat_at b k).switch.table y) o.source
                 (flood_kept _ _ _ a floods sized (inr o.l) (tells e (learns_not a true f (omega arith) (inr refl))))))
 
@@ -137,21 +135,20 @@ module _ (b : Bench) (r : Reached b) (k : ℕ) (inside : k < b.network.nswitches
 
         -- all live ports but the arrival port send it
         pub first_floods : sent_in b k a ≡ sends (flood (seat_at b k).switch.setup a) a.header
-        first_floods = verdict_sends (flood_first _ _ _ a floods first)
+        first_floods = verdict_sends a (flood_first _ _ _ a floods first)
 
         -- the filter then holds it
         pub first_held : keeps b k (ruled b k a).filter (triple x nonce 1) ≡ true
         first_held = ap (keeps b k (ruled b k a).filter) (sym (ours_key o)) ∙ flood_held _ _ _ a floods (r.shape.seats k inside).formed.filter
 
         -- its source is learned where it came from
-        pub first_found : a.source ≢ 0 → lookup_of (ruled b k a).table x ≡ Here (entry_of a.port a.header.hc)
+        pub first_found : a.source ≢ 0 → lookup_of (ruled b k a).table x ≡ Some (entry_of a.port a.header.hc)
         first_found some = learned some (ap (λ w. learns a w (lookup_of (seat_at b k).switch.table a.source)) first ∙ learns_local a (lookup_of (seat_at b k).switch.table a.source) o.l)
 
     -- what is sent of it has its header
     pub ours_sent : (p : ℕ) → names (sent_in b k a).mask p ≡ true → (sent_in b k a).header ≡ a.header
-    ours_sent p named = by_tests (too_old (seat_at b k).switch.setup a) refl (held_in b.network b (triple x nonce 1) k) refl
-      where
-        by_tests : (old : Bool) → too_old (seat_at b k).switch.setup a ≡ old → (again : Bool) → held_in b.network b (triple x nonce 1) k ≡ again → (sent_in b k a).header ≡ a.header
-        by_tests true old again held = absurd (true≢false (sym named ∙ old_silent old p))
-        by_tests false young true held = absurd (true≢false (sym named ∙ again_silent young held p))
-        by_tests false young false new = ap (λ s. s.header) (first_floods young new)
+    ours_sent p named =
+        ⊎_elim (λ old. absurd (both_ways _ (old_silent old p) named))
+        (λ young. ⊎_elim (λ again. absurd (both_ways _ (again_silent young again p) named)) (λ new. ap (λ s. s.header) (first_floods young new))
+        (cases_Bool (held_in b.network b (triple x nonce 1) k)))
+        (cases_Bool (too_old (seat_at b k).switch.setup a))

@@ -2,11 +2,12 @@
 use Prim.Native.Nat.{ℕ, ◌^◌, ◌<◌}
 use mathlib.Core.Path.{◌≡◌, refl, sym, ap, subst, ◌∙◌}
 use mathlib.Core.Logic.{◌≢◌, inl, ⊎_elim, by_cases}
-use mathlib.Core.Bool.{Bool, true, false}
+use mathlib.Core.Bool.{true, false}
 use mathlib.Core.List.{List, [], ◌∷◌, ◌++◌, Memᴰ}
 use native.Mathlib.Decide.{dec_lt, ℕ_discrete}
 use native.Mathlib.Omega.{arith}
-use borrow.Author.Tests.{ne_eqb}
+use borrow.Author.Tests.{both_ways, ne_eqb}
+use Rattle.std.proofs.lemmas.Bool.{false_from_ne_true}
 use Rattle.wire.specs.Address.{Source}
 use Rattle.network.specs.declared.Port.{Port}
 use Rattle.filter.specs.Filter.{holds}
@@ -15,7 +16,7 @@ use Rattle.rules.specs.declared.Arrival.{Arrival}
 use Rattle.rules.proofs.Laws.{bystander_kept, held_before}
 use Rattle.seat.specs.declared.Seat.{Seat}
 use Rattle.flight.specs.declared.Copy.{Copy}
-use Rattle.turn.specs.declared.Answer.{Answer}
+use Rattle.turn.specs.Turn.{Answer}
 use Rattle.bench.specs.declared.Bench.{Bench}
 use Rattle.bench.specs.Bench.{in_flight, seat_at}
 use Rattle.bench.specs.Kept as bench
@@ -24,16 +25,16 @@ use Rattle.flood.specs.Delivery.{Passes}
 use Rattle.plug_in.specs.Words.{KeepsRecord, holds_at, sends_by}
 use Rattle.plug_in.proofs.Happening.{Steps, step_kept, step_new}
 use Rattle.plug_in.proofs.Reached.{Reached}
-use Rattle.plug_in.proofs.Stepping.{found_after, found_at, held_after, held_at, keeps, moment_in, ruled, sends_is, sources_apart, times_not}
-use Rattle.plug_in.proofs.View.{Flies, found_in, head_beyond, head_inside, head_at, held_in, moment, others_stay, same_found, same_held}
+use Rattle.plug_in.proofs.Stepping.{found_stays, held_after, held_at, keeps, moment_in, sends_is, sources_apart, times_not}
+use Rattle.plug_in.proofs.View.{Flies, found_in, head_beyond, head_inside, head_at, held_elsewhere, held_in, moment, same_head, same_held, still_flies}
 
 -- a filter of the stand holds a key, in the words of the order
-pub held_word : (b c : Bench) (key : List ℕ) {t : ℕ} → c.network ≡ b.network → t < b.network.nswitches → held_in b.network c key t ≡ holds_at c t key
+held_word : (b c : Bench) (key : List ℕ) {t : ℕ} → c.network ≡ b.network → t < b.network.nswitches → held_in b.network c key t ≡ holds_at c t key
 unfolding held_in holds_at
 held_word b c key same h = ap (λ (s : Seat). holds s.cells s.switch.setup.salt key) (head_inside b.network c h)
 
 -- while a copy is in flight no filter loses the frame
-pub kept_by : (b c : Bench) (x : ℕ) (key : List ℕ) → c.network ≡ b.network → KeepsRecord x key b c → (p : Port) (j : ℕ) → Flies b.network x b p j
+kept_by : (b c : Bench) (x : ℕ) (key : List ℕ) → c.network ≡ b.network → KeepsRecord x key b c → (p : Port) (j : ℕ) → Flies b.network x b p j
     → (t : ℕ) → held_in b.network b key t ≡ true → held_in b.network c key t ≡ true
 kept_by b c x key same keeps p j w t held =
     by_cases (dec_lt t b.network.nswitches)
@@ -42,22 +43,19 @@ kept_by b c x key same keeps p j w t held =
 
 -- ---- A step on another's frame
 
-module _ (b : Bench) (r : Reached b) (k : ℕ) (a : Arrival) (rest : List Copy) {c : Bench} {told : Answer} (v : Steps b k a rest c told) (inside : k < b.network.nswitches)
+module _ {b : Bench} (r : Reached b) {k : ℕ} {a : Arrival} {rest : List Copy} {c : Bench} {told : Answer} (v : Steps b k a rest c told) (inside : k < b.network.nswitches)
     (x nonce : ℕ) (other : a.source ≢ x) (far : a.destination ≢ x) where
   module _ (source : Source a.source) (below : x < 2 ^ 48) where
     -- it makes no record of A's frame
     unmade : (t : ℕ) → held_in b.network b (triple x nonce 1) t ≡ false → held_in b.network c (triple x nonce 1) t ≡ false
-    unmade t free = by_cases (ℕ_discrete t k) (λ e. subst (λ t. held_in b.network c (triple x nonce 1) t ≡ false) (sym e) (here (rw e at free)))
-        (λ d. same_held b.network b c (triple x nonce 1) t (others_stay v t d) ∙ free)
+    unmade t free = by_cases (ℕ_discrete t k) (λ e. rw e (here (rw e at free))) (λ d. held_elsewhere v (triple x nonce 1) t d ∙ free)
       where
-        by_test : (held : Bool) → keeps b k (ruled b k a).filter (triple x nonce 1) ≡ held → keeps b k (seat_at b k).cells (triple x nonce 1) ≡ false → held ≡ false
-        by_test false e free = refl
-        by_test true e free =
-            ⊎_elim (λ before. sym before ∙ free) (λ w. absurd (other (sources_apart w.0.nonce nonce source.below below (sym w.1))))
-            (held_before (seat_at b k).switch.setup (seat_at b k).switch.table (seat_at b k).cells a (triple x nonce 1) refl e)
-
         here : held_in b.network b (triple x nonce 1) k ≡ false → held_in b.network c (triple x nonce 1) k ≡ false
-        here free = held_after b k a rest v inside (triple x nonce 1) ∙ by_test _ refl (sym (held_at b k inside (triple x nonce 1)) ∙ free)
+        here free =
+            held_after v inside (triple x nonce 1)
+            ∙ false_from_ne_true _
+            (λ e. ⊎_elim (both_ways _ (sym (held_at b k inside (triple x nonce 1)) ∙ free)) (λ w. other (sources_apart w.0.nonce nonce source.below below (sym w.1)))
+            (held_before (seat_at b k).switch.setup (seat_at b k).switch.table (seat_at b k).cells a (triple x nonce 1) refl e))
 
     -- A's frame passes
     pub others_pass : ((d : Copy) → Memᴰ d rest → Memᴰ d (in_flight b)) → ((d : Copy) → Memᴰ d (in_flight b) → d.source ≡ x → Memᴰ d rest)
@@ -66,27 +64,21 @@ module _ (b : Bench) (r : Reached b) (k : ℕ) (a : Arrival) (rest : List Copy) 
     unfolding moment
     others_pass were left keeps h m said =
         record {
-          gone = λ p j w. inl (record { copy = w.copy; there = step_kept b k a rest v (left w.copy w.there w.mine); mine = w.mine; to = w.to; hops = w.hops });
-          only = λ p j w. record { copy = w.copy; there = old w; mine = w.mine; to = w.to; hops = w.hops };
+          gone = λ p j w. inl (still_flies w (step_kept v (left w.copy w.there w.mine)));
+          only = λ p j w. still_flies w (old w);
           kept = λ p j w t held. kept_by b c x (triple x nonce 1) v.network keeps p j w t held;
           unmade = unmade;
-          silent = λ p. times_not (sends_by x p.switch p.number) h m (ap (sends_by x p.switch p.number) said ∙ sends_is b k a rest v x p.switch p.number ∙ rw (ne_eqb a.source x other));
+          silent = λ p. times_not (sends_by x p.switch p.number) h m (ap (sends_by x p.switch p.number) said ∙ sends_is v x p.switch p.number ∙ rw (ne_eqb a.source x other));
         }
       where
         old : {p : Port} {j : ℕ} (w : Flies b.network x c p j) → Memᴰ w.copy (in_flight b)
-        old w = ⊎_elim (were w.copy) (λ o. absurd (other (sym (ap (λ (d : Copy). d.source) o.is) ∙ w.mine))) (step_new b k a rest v w.there)
+        old w = ⊎_elim (were w.copy) (λ o. absurd (other (sym (ap (λ (d : Copy). d.source) o.is) ∙ w.mine))) (step_new v w.there)
 
   -- and no record for A changes
   pub others_keep : (t : ℕ) → found_in b.network c x t ≡ found_in b.network b x t
-  others_keep t =
-      by_cases (ℕ_discrete t k) (λ e. subst (λ t. found_in b.network c x t ≡ found_in b.network b x t) (sym e) here)
-      (λ d. same_found b.network b c x t (others_stay v t d))
-    where
-      here : found_in b.network c x k ≡ found_in b.network b x k
-      here =
-          found_after b k a rest v inside x
-          ∙ bystander_kept (seat_at b k).switch.setup (seat_at b k).switch.table (seat_at b k).cells a (r.shape.seats k inside).formed.table.sized x (λ e. other (sym e)) (λ e. far (sym e))
-          ∙ sym (found_at b k inside x)
+  others_keep =
+      found_stays v inside x
+      (bystander_kept (seat_at b k).switch.setup (seat_at b k).switch.table (seat_at b k).cells a (r.shape.seats k inside).formed.table.sized x (λ e. other (sym e)) (λ e. far (sym e)))
 
 -- ---- Nothing happens
 
@@ -104,12 +96,7 @@ same_bench {b} {c} e =
 
 -- and behind a link that is set to the state that it has
 pub same_link : {b c : Bench} {told : Answer} → bench.Unchanged b (record { bench = c; answer = told }) → Unchanged b c
-same_link {b} {c} v = record { network = v.network; up = v.links; heads = head; flying = v.copies }
-  where
-    head : (t : ℕ) → head_at b.network c t ≡ head_at b.network b t
-    head t =
-        by_cases (dec_lt t b.network.nswitches) (λ h. head_inside b.network c h ∙ v.seats t h ∙ sym (head_inside b.network b h))
-        (λ h. head_beyond b.network c (omega arith) ∙ sym (head_beyond b.network b (omega arith)))
+same_link {b} {c} v = record { network = v.network; up = v.links; heads = λ t. same_head b.network b c t (v.seats t); flying = v.copies }
 
 -- A's frame passes, where the answer says that no port sent it
 pub nothing_passes : {b c : Bench} (r : Reached b) (x nonce : ℕ) → Unchanged b c → (h : List Happened) (m : Happened) → ((t p : ℕ) → sends_by x t p m.answer ≡ false)
@@ -117,8 +104,8 @@ pub nothing_passes : {b c : Bench} (r : Reached b) (x nonce : ℕ) → Unchanged
 unfolding moment
 nothing_passes {b} {c} r x nonce v h m said =
     record {
-      gone = λ p j w. inl (record { copy = w.copy; there = subst (λ ds. Memᴰ w.copy ds) (sym v.flying) w.there; mine = w.mine; to = w.to; hops = w.hops });
-      only = λ p j w. record { copy = w.copy; there = subst (λ ds. Memᴰ w.copy ds) v.flying w.there; mine = w.mine; to = w.to; hops = w.hops };
+      gone = λ p j w. inl (still_flies w (subst (Memᴰ w.copy) (sym v.flying) w.there));
+      only = λ p j w. still_flies w (subst (Memᴰ w.copy) v.flying w.there);
       kept = λ p j w t held. same_held b.network b c (triple x nonce 1) t (v.heads t) ∙ held;
       unmade = λ t free. same_held b.network b c (triple x nonce 1) t (v.heads t) ∙ free;
       silent = λ p. times_not (sends_by x p.switch p.number) h m (said p.switch p.number);

@@ -1,7 +1,7 @@
 -- Facts of every state that the bench can reach: it is in shape, its tables name hosts' addresses alone, and so do the sources of the copies in flight.
 -- With 32 hosts at most no table of 64 slots is ever full.
 use Prim.Native.Nat.{ℕ, ◌<◌}
-use mathlib.Core.Path.{◌≡◌, refl, sym, ap, subst, ◌∙◌}
+use mathlib.Core.Path.{◌≡◌, refl, sym, ap, subst, subst₂, ◌∙◌}
 use mathlib.Core.Logic.{⊎_elim, by_cases}
 use mathlib.Core.Bool.{Bool, true, false}
 use mathlib.Core.List.Memᴰ
@@ -32,13 +32,11 @@ use Rattle.event.specs.declared.Event.TheVariants.{Present, Take, Link}
 use Rattle.event.specs.declared.Presented.{Presented}
 use Rattle.event.specs.declared.Setting.{Setting}
 use Rattle.event.specs.Event.{address_of}
-use Rattle.turn.specs.declared.Answer.{Answer}
-use Rattle.turn.specs.Turn.{copy_arrival, copy_at, end_of, host_arrival, host_of, is_up, port_to, spared_by}
+use Rattle.turn.specs.Turn.{Answer, copy_arrival, copy_at, end_of, host_arrival, host_of, is_up, port_to, spared_by}
 use Rattle.turn.specs.Fits.{CopyFits}
 use Rattle.turn.proofs.Laws.{host_accepted, place_accepted}
 use Rattle.bench.specs.declared.Bench.{Bench}
 use Rattle.bench.specs.Bench.{fresh_bench, in_flight, seat_at}
-use Rattle.bench.specs.Events.{event_of}
 use Rattle.bench.specs.Kept.{Unchanged}
 use Rattle.bench.specs.Shape.{Accepted, InShape, Sized}
 use Rattle.bench.proofs.Laws.{already_so, fresh_seat_lem}
@@ -90,12 +88,12 @@ module _ (n : Network) (c : Copy) where
 
 -- ---- Hosts alone are named
 
-pub record Named (b : Bench) : Type 0 where
-  pub entries : (k : ℕ) → k < b.network.nswitches → (x : ℕ) → Holds (seat_at b k).switch.table x → IsHosts b.network x
-  pub sources : All (λ c. IsHosts b.network c.source) (in_flight b)
+pub record Named (n : Network) (b : Bench) : Type 0 where
+  pub entries : (k : ℕ) → k < n.nswitches → (x : ℕ) → Holds (seat_at b k).switch.table x → IsHosts n x
+  pub sources : All (λ c. IsHosts n c.source) (in_flight b)
 
 -- of a fresh bench, whose tables are empty
-fresh_named : (n : Network) → network_fault n ≡ 0 → Named (fresh_bench n)
+fresh_named : (n : Network) → network_fault n ≡ 0 → Named n (fresh_bench n)
 unfolding fresh_bench in_flight fresh_seat
 fresh_named n fine =
     record {
@@ -103,27 +101,18 @@ fresh_named n fine =
       sources = record { each = λ c m. absurd (Memᴰ.not-nil m) };
     }
 
--- ---- The same step, of a bench and an answer that are equal
-
--- equals for equals
-recast : {b : Bench} {k : ℕ} {a : Arrival} {rest : List Copy} {c d : Bench} {x y : Answer} → c ≡ d → x ≡ y → Steps b k a rest c x → Steps b k a rest d y
-recast {b} {k} {a} {rest} {c} {d} {x} {y} p q v = subst (λ z. Steps b k a rest d z) q (subst (λ z. Steps b k a rest z x) p v)
-
 -- ---- What is known of a bench that was reached
 
 pub record Reached (b : Bench) : Type 0 where
   pub shape : InShape b
   pub sized : Sized b
-  pub named : Named b
+  pub named : Named b.network b
 
 -- a head that steps learns and sends with the source that arrived
 stepped_named : {b : Bench} {k : ℕ} {a : Arrival} {rest : List Copy} {c : Bench} {told : Answer} → Reached b → k < b.network.nswitches → Steps b k a rest c told
-    → IsHosts b.network a.source → ((d : Copy) → Memᴰ d rest → Memᴰ d (in_flight b)) → Named c
-stepped_named {b} {k} {a} {rest} {c} r inside v from were =
-    record {
-      entries = λ j h x held. subst (λ n. IsHosts n x) (sym v.network) (entry j (subst (λ n. j < n.nswitches) v.network h) x held);
-      sources = record { each = λ d m. subst (λ n. IsHosts n d.source) (sym v.network) (⊎_elim (λ w. r.named.sources.each d (were d w)) sent (step_new b k a rest v m)) };
-    }
+    → IsHosts b.network a.source → ((d : Copy) → Memᴰ d rest → Memᴰ d (in_flight b)) → Named b.network c
+stepped_named {b} {k} {a} {c = c} r inside v from were =
+    record { entries = entry; sources = record { each = λ d m. ⊎_elim (λ w. r.named.sources.each d (were d w)) sent (step_new v m) } }
   where
     sent : {plug : ℕ → Plug} {mask : ℕ} {h : Header} {d : Copy} → WentOut plug a mask h d → IsHosts b.network d.source
     sent w = subst (λ (d : Copy). IsHosts b.network d.source) (sym w.is) from
@@ -140,20 +129,21 @@ stepped_named {b} {k} {a} {rest} {c} r inside v from were =
         (λ e. learned x (subst (λ (t : Seat). Holds t.switch.table x) v.seat (subst (λ i. Holds (seat_at c i).switch.table x) e held)))
         (λ d. r.named.entries j h x (subst (λ (t : Seat). Holds t.switch.table x) (v.others j h d) held))
 
+-- as the bench's own network has it
+own : {n : Network} {c : Bench} → c.network ≡ n → Named n c → Named c.network c
+own {c = c} same v = subst (λ n. Named n c) (sym same) v
+
 -- a link that is set changes no table and brings no copy
-linked_named : {b : Bench} {l : ℕ} {state : Bool} {c : Bench} → Named b → Sets b l state c → Named c
-linked_named {b} {l} {state} {c} n v =
+linked_named : {b : Bench} {l : ℕ} {state : Bool} {c : Bench} → Named b.network b → Sets b l state c → Named b.network c
+linked_named {b} {l} {state} n v =
     record {
-      entries = λ j h x held. subst (λ n. IsHosts n x) (sym v.network) (entry j (subst (λ n. j < n.nswitches) v.network h) x held);
-      sources = record { each = λ d m. subst (λ n. IsHosts n d.source) (sym v.network) (n.sources.each d (spares state (subst (λ ds. Memᴰ d ds) v.flying m))) };
+      entries = λ j h x held. n.entries j h x (subst (λ (t : Seat). Holds t.switch.table x) (v.seats j h) held);
+      sources = record { each = λ d m. n.sources.each d (spares state (subst (Memᴰ d) v.flying m)) };
     }
   where
     spares : (state : Bool) {d : Copy} → Memᴰ d (spared_by state l (in_flight b)) → Memᴰ d (in_flight b)
     spares true m = m
     spares false m = (spared_member l (in_flight b) m).0
-
-    entry : (j : ℕ) → j < b.network.nswitches → (x : ℕ) → Holds (seat_at c j).switch.table x → IsHosts b.network x
-    entry j h x held = n.entries j h x (subst (λ (t : Seat). Holds t.switch.table x) (v.seats j h) held)
 
 -- ---- Each kind of event, accepted
 
@@ -180,7 +170,7 @@ module _ (s : State) (r : Reached s.bench) where
         (host_arrival (seat_at s.bench (host_of s.bench.network p.host).port.switch) (host_of s.bench.network p.host) (address_of p.to)) (in_flight s.bench)
         (after s (Present p)).bench (happens_at s (Present p)).happened.answer
     presents_steps =
-        recast (sym (accepted_bench s (Present p) ok)) (sym (accepted_answer s (Present p) ok)) (presented s.bench r.sized p (accepted (Present p) ok))
+        subst₂ (Steps _ _ _ _) (sym (accepted_bench s (Present p) ok)) (sym (accepted_answer s (Present p) ok)) (presented s.bench r.sized p (accepted (Present p) ok))
 
   module _ (place : ℕ) (ok : event_refusal s.bench s.counters (Take place) ≡ 0) where
     -- there is such a copy
@@ -209,34 +199,35 @@ module _ (s : State) (r : Reached s.bench) where
     pub takes_steps : Steps s.bench (port_to s.bench.network (copy_at (in_flight s.bench) place)).switch (copy_arrival s.bench.network (copy_at (in_flight s.bench) place))
         (without place (in_flight s.bench)) (after s (Take place)).bench (happens_at s (Take place)).happened.answer
     takes_steps =
-        recast (sym (accepted_bench s (Take place) ok)) (sym (accepted_answer s (Take place) ok)) (taken s.bench r.sized place (accepted (Take place) ok))
+        subst₂ (Steps _ _ _ _) (sym (accepted_bench s (Take place) ok)) (sym (accepted_answer s (Take place) ok)) (taken s.bench r.sized place (accepted (Take place) ok))
 
   module _ (e : Setting) (ok : event_refusal s.bench s.counters (Link e) ≡ 0) where
     -- the link is set
-    pub links_sets : Sets s.bench e.link (is_up e.state) (after s (Link e)).bench
+    links_sets : Sets s.bench e.link (is_up e.state) (after s (Link e)).bench
     links_sets = subst (Sets s.bench e.link (is_up e.state)) (sym (accepted_bench s (Link e) ok)) (linked s.bench r.sized e (accepted (Link e) ok))
 
     -- where it is so already, nothing changes
     pub links_idle : get_or s.bench.up e.link false ≡ is_up e.state → Unchanged s.bench (record { bench = (after s (Link e)).bench; answer = (happens_at s (Link e)).happened.answer })
     links_idle so =
-        subst (λ b. Unchanged s.bench (record { bench = b; answer = (happens_at s (Link e)).happened.answer })) (sym (accepted_bench s (Link e) ok))
-        (subst (λ a. Unchanged s.bench (record { bench = (event_of s.bench (Link e)).bench; answer = a })) (sym (accepted_answer s (Link e) ok))
-        (already_so s.bench e r.sized (accepted (Link e) ok) so))
+        subst₂ (λ b a. Unchanged s.bench (record { bench = b; answer = a })) (sym (accepted_bench s (Link e) ok)) (sym (accepted_answer s (Link e) ok))
+        (already_so s.bench e r.sized (accepted (Link e) ok) so)
 
 -- ---- Runs
 
 -- hosts alone are named behind an event, too
-after_named : (s : State) → Reached s.bench → (e : Event) → Named (after s e).bench
+after_named : (s : State) → Reached s.bench → (e : Event) → Named (after s e).bench.network (after s e).bench
 after_named s r e =
-    by_cases (ℕ_discrete (event_refusal s.bench s.counters e) 0) (by_event e) (λ no. subst Named (sym (refused_bench s e no)) r.named)
+    by_cases (ℕ_discrete (event_refusal s.bench s.counters e) 0) (by_event e) (λ no. subst (λ b. Named b.network b) (sym (refused_bench s e no)) r.named)
   where
-    by_event : (e : Event) → event_refusal s.bench s.counters e ≡ 0 → Named (after s e).bench
+    by_event : (e : Event) → event_refusal s.bench s.counters e ≡ 0 → Named (after s e).bench.network (after s e).bench
     by_event (Present p) ok =
-        stepped_named r (presents_inside s r p ok) (presents_steps s r p ok) (record { host = p.host; there = presents_host s r p ok; is = sym (host_from _ _ _) }) (λ d m. m)
+        let w = presents_steps s r p ok in
+        own w.network (stepped_named r (presents_inside s r p ok) w (record { host = p.host; there = presents_host s r p ok; is = sym (host_from _ _ _) }) (λ d m. m))
     by_event (Take place) ok =
-        stepped_named r (takes_stands s r place ok).switch (takes_steps s r place ok)
-        (subst (IsHosts s.bench.network) (sym (copy_from _ _)) (r.named.sources.each _ (takes_member s r place ok))) (λ d m. without_member place (in_flight s.bench) m)
-    by_event (Link e) ok = linked_named r.named (links_sets s r e ok)
+        let w = takes_steps s r place ok in
+        own w.network (stepped_named r (takes_stands s r place ok).switch w (subst (IsHosts s.bench.network) (sym (copy_from _ _)) (r.named.sources.each _ (takes_member s r place ok)))
+        (λ d m. without_member place (in_flight s.bench) m))
+    by_event (Link e) ok = let w = links_sets s r e ok in own w.network (linked_named r.named w)
 
 -- one event more leads to a state that can be reached
 pub reachable_after : {s : State} → Reachable s → (e : Event) → Reachable (after s e)
@@ -254,17 +245,18 @@ reachable_after {s} r e =
     last s (f ∷ es) = last (after s f) es
 
 -- a bench in a run, whose tables and copies name hosts alone
-known : {s : State} → InRun s → Named s.bench → Reached s.bench
+known : {s : State} → InRun s → Named s.bench.network s.bench → Reached s.bench
 known r n = record { shape = r.shape; sized = r.sized; named = n }
 
 -- hosts alone are named behind every run
-run_named : (s : State) → InRun s → Named s.bench → (es : List Event) → Named (run_of s es).bench
+run_named : (s : State) → InRun s → Named s.bench.network s.bench → (es : List Event) → Named (run_of s es).bench.network (run_of s es).bench
 unfolding run_of
 run_named s r n [] = n
 run_named s r n (e ∷ es) = run_named (after s e) (event_in_run r e) (after_named s (known r n) e) es
 
 -- of every state that the bench can reach
 pub reached : (s : State) → Reachable s → Reached s.bench
+unfolding fresh_bench
 reached s r =
     known (reachable_in_run r)
-    (subst (λ (s : State). Named s.bench) r.leads (run_named (fresh_state r.network) (fresh_in_run r.network r.accepted) (fresh_named r.network r.accepted) r.events))
+    (subst (λ (s : State). Named s.bench.network s.bench) r.leads (run_named (fresh_state r.network) (fresh_in_run r.network r.accepted) (fresh_named r.network r.accepted) r.events))

@@ -1,5 +1,5 @@
 -- The run from A's frame on: event by event the bench is at a moment of the flood.
-use Prim.Native.Nat.{ℕ, ◌+◌, ◌^◌, ◌<◌}
+use Prim.Native.Nat.{ℕ, ◌^◌, ◌<◌}
 use mathlib.Core.Path.{◌≡◌, refl, sym, ap, subst, ◌∙◌}
 use mathlib.Core.Logic.{◌≢◌, ⊎_elim, by_cases}
 use mathlib.Core.Bool.{Bool, false}
@@ -12,7 +12,6 @@ use Rattle.network.specs.declared.Port.{Port}
 use Rattle.network.specs.Checks.{network_fault}
 use Rattle.filter.specs.Triple.{triple}
 use Rattle.frame.specs.declared.Header.{Header}
-use Rattle.frame.specs.Header.{bit}
 use Rattle.rules.specs.declared.Arrival.{Arrival}
 use Rattle.flight.specs.declared.Copy.{Copy}
 use Rattle.flight.specs.Flight.{All}
@@ -33,9 +32,10 @@ use Rattle.plug_in.proofs.Ours.{ours_sent}
 use Rattle.plug_in.proofs.Passing.{Unchanged, nothing_passes, others_keep, others_pass, same_bench, same_link}
 use Rattle.plug_in.proofs.Reached.{Reached, copy_from, copy_to_lem, host_from, host_to, links_idle, presents_host, presents_inside, presents_steps, reachable_after, reached, takes_fits, takes_member, takes_stands, takes_steps, takes_there}
 use Rattle.plug_in.proofs.Stand.{address_once, host_source}
+use Rattle.plug_in.proofs.Stepping.{same_in}
 use Rattle.plug_in.proofs.Taken.{Takes, takes}
 use Rattle.plug_in.proofs.Taking.{goes_on}
-use Rattle.plug_in.proofs.View.{moment, records, same_found, same_record, start, times_more}
+use Rattle.plug_in.proofs.View.{moment, records, same_found, sends_to, start, times_alike}
 
 -- where a run from A's frame has led: the network and the links' states are those at the start, h is the history since then
 pub record Flowing (n : Network) (up : List Bool) (A x nonce : ℕ) (s : State) (h : List Happened) : Type 1 where
@@ -46,7 +46,7 @@ pub record Flowing (n : Network) (up : List Bool) (A x nonce : ℕ) (s : State) 
   pub address : (host_of n A).address ≡ x
   pub fine : network_fault n ≡ 0
   pub carries : All (Carries x nonce) (in_flight s.bench)
-  pub counts : (i : ℕ) → i < n.nhosts → times (receives_by x i) h ≡ times (sends_by x (host_of n i).port.switch (host_of n i).port.number) h
+  pub counts : (i : ℕ) → i < n.nhosts → times (receives_by x i) h ≡ times (sends_to x n i) h
   pub recording : Recording (start n up fine x A) (host_of n A).port (moment n up fine x (triple x nonce 1) s.bench h) (records n up fine x s.bench)
 
 -- told of the network and the links' states that the bench has
@@ -75,10 +75,14 @@ module _ {A x nonce : ℕ} (s : State) (h : List Happened) (v : Flowing s.bench.
       Recording (start s.bench.network s.bench.up v.fine x A) (host_of s.bench.network A).port
       (moment s.bench.network s.bench.up v.fine x (triple x nonce 1) (after s e).bench (h ++ (happened s e ∷ []))) (records s.bench.network s.bench.up v.fine x (after s e).bench)
 
+  -- and so the run
+  abbrev Further : Event → Type 1
+  Further e = Flowing s.bench.network s.bench.up A x nonce (after s e) (h ++ (happened s e ∷ []))
+
   -- what is to be shown of an event
   next : (e : Event) → (after s e).bench.network ≡ s.bench.network → (after s e).bench.up ≡ s.bench.up → All (Carries x nonce) (in_flight (after s e).bench)
-      → ((i : ℕ) → i < s.bench.network.nhosts → receives_by x i (happens_at s e).happened.answer ≡ sends_by x (host_of s.bench.network i).port.switch (host_of s.bench.network i).port.number (happens_at s e).happened.answer)
-      → Recorded e → Flowing s.bench.network s.bench.up A x nonce (after s e) (h ++ (happened s e ∷ []))
+      → ((i : ℕ) → i < s.bench.network.nhosts → receives_by x i (happens_at s e).happened.answer ≡ sends_to x s.bench.network i (happens_at s e).happened.answer)
+      → Recorded e → Further e
   next e network links carries alike recording =
       record {
         reachable = reachable_after v.reachable e;
@@ -88,47 +92,45 @@ module _ {A x nonce : ℕ} (s : State) (h : List Happened) (v : Flowing s.bench.
         address = v.address;
         fine = v.fine;
         carries = carries;
-        counts = λ i l. times_more (receives_by x i) h (happened s e) ∙ ap (λ t. t + bit (receives_by x i (happens_at s e).happened.answer)) (v.counts i l)
-            ∙ ap (λ w. times (sends_by x (host_of s.bench.network i).port.switch (host_of s.bench.network i).port.number) h + bit w) (alike i l)
-            ∙ sym (times_more (sends_by x (host_of s.bench.network i).port.switch (host_of s.bench.network i).port.number) h (happened s e));
+        counts = λ i l. times_alike (receives_by x i) (sends_to x s.bench.network i) h (happened s e) (v.counts i l) (alike i l);
         recording = recording;
       }
 
   -- nothing happens
   idle : (e : Event) → Unchanged s.bench (after s e).bench → ((t p : ℕ) → sends_by x t p (happens_at s e).happened.answer ≡ false) → ((i : ℕ) → receives_by x i (happens_at s e).happened.answer ≡ false)
-      → Flowing s.bench.network s.bench.up A x nonce (after s e) (h ++ (happened s e ∷ []))
+      → Further e
   idle e u silent nobody =
       next e u.network u.up (subst (All (Carries x nonce)) (sym u.flying) v.carries) (λ i l. nobody i ∙ sym (silent _ _))
       (relearned v.recording (nothing_passes known x nonce u h (happened s e) silent)
-      (λ t. stays (same_record s.bench.network s.bench.up v.fine x s.bench (after s e).bench t (same_found s.bench.network s.bench (after s e).bench x t (u.heads t)))))
+      (λ t. stays (same_in known x (after s e).bench t (same_found _ _ _ x t (u.heads t)))))
 
   -- a head steps on another's frame
   by_others : (e : Event) (k : ℕ) (a : Arrival) (rest : List Copy) → Steps s.bench k a rest (after s e).bench (happens_at s e).happened.answer → k < s.bench.network.nswitches
       → Source a.source → a.source ≢ x → a.destination ≢ x → ((d : Copy) → Memᴰ d rest → Memᴰ d (in_flight s.bench))
       → ((d : Copy) → Memᴰ d (in_flight s.bench) → d.source ≡ x → Memᴰ d rest) → KeepsRecord x (triple x nonce 1) s.bench (after s e).bench
-      → Flowing s.bench.network s.bench.up A x nonce (after s e) (h ++ (happened s e ∷ []))
+      → Further e
   by_others e k a rest w inside source other far were left keeps =
-      next e w.network w.up (carried s.bench k a rest w (λ d m. v.carries.each d (were d m)) (λ _. far) (λ p n mine. absurd (other mine)))
-      (receives_as_sent s.bench known k a rest w x)
-      (relearned v.recording (others_pass s.bench known k a rest w inside x nonce other far source below were left keeps h (happened s e) refl)
-      (λ t. stays (same_record s.bench.network s.bench.up v.fine x s.bench (after s e).bench t (others_keep s.bench known k a rest w inside x nonce other far t))))
+      next e w.network w.up (carried w (λ d m. v.carries.each d (were d m)) (λ _. far) (λ p n mine. absurd (other mine)))
+      (receives_as_sent known w x)
+      (relearned v.recording (others_pass known w inside x nonce other far source below were left keeps h (happened s e) refl)
+      (λ t. stays (same_in known x (after s e).bench t (others_keep known w inside x nonce other far t))))
 
   -- a copy of A's frame is taken
   by_ours : (place : ℕ) (d : Copy) (p : Port) (a : Arrival) (rest : List Copy) → Takes s.bench x nonce d p a rest
       → Steps s.bench p.switch a rest (after s (Take place)).bench (happens_at s (Take place)).happened.answer → LosesNone x (happens_at s (Take place)).happened.answer
-      → Flowing s.bench.network s.bench.up A x nonce (after s (Take place)) (h ++ (happened s (Take place) ∷ []))
+      → Further (Take place)
   by_ours place d p a rest t w room =
       next (Take place) w.network w.up
-      (carried s.bench p.switch a rest w (λ e m. v.carries.each e (t.were e m)) (λ other. absurd (other t.ours.source))
-      (λ q named mine. says (ours_sent s.bench known p.switch t.stands.switch a t.ours q named)))
-      (receives_as_sent s.bench known p.switch a rest w x)
-      (goes_on s.bench known A x nonce d p a rest t w room (host_of s.bench.network A).port h (happened s (Take place)) refl v.recording)
+      (carried w (λ e m. v.carries.each e (t.were e m)) (λ other. absurd (other t.ours.source))
+      (λ q named mine. says (ours_sent known t.stands.switch t.ours q named)))
+      (receives_as_sent known w x)
+      (goes_on known A t w room (host_of s.bench.network A).port h (happened s (Take place)) refl v.recording)
     where
       says : {g : Header} → g ≡ a.header → Says nonce g
       says e = subst (Says nonce) (sym e) (record { l = t.ours.l; f = t.ours.f; nonce = t.ours.nonce })
 
   -- any event that is provided for
-  pub event : (e : Event) → Provided A x (triple x nonce 1) s e → Flowing s.bench.network s.bench.up A x nonce (after s e) (h ++ (happened s e ∷ []))
+  event : (e : Event) → Provided A x (triple x nonce 1) s e → Further e
   unfolding address_of_host
   event e provided =
       by_cases (ℕ_discrete (event_refusal s.bench s.counters e) 0) (λ ok. ⊎_elim (λ no. absurd (no ok)) (accepted e provided.room provided.kept ok) provided.others)
@@ -139,7 +141,7 @@ module _ {A x nonce : ℕ} (s : State) (h : List Happened) (v : Flowing s.bench.
       other_host i l d e = d (address_once s.bench.network v.fine i A l v.there (e ∙ sym v.address))
 
       accepted : (e : Event) → LosesNone x (happens_at s e).happened.answer → KeepsRecord x (triple x nonce 1) s.bench (after s e).bench → event_refusal s.bench s.counters e ≡ 0 → OfOthers s A e
-          → Flowing s.bench.network s.bench.up A x nonce (after s e) (h ++ (happened s e ∷ []))
+          → Further e
       accepted (Present p) room keeps ok others =
           by_others (Present p) _ _ _ (presents_steps s known p ok) (presents_inside s known p ok)
           (subst Source (sym (host_from _ _ _)) (host_source s.bench.network v.fine p.host (presents_host s known p ok)))

@@ -5,16 +5,18 @@ use mathlib.Core.Path.{◌≡◌, refl, sym, subst, ◌∙◌}
 use mathlib.Core.Logic.{◌⊎◌, inl, inr, ⊎_elim, by_cases}
 use mathlib.Core.Bool.{Bool, true, false, cond, true≢false}
 use mathlib.Core.List.Memᴰ
-use mathlib.Core.List.{List, [], ◌∷◌, ◌++◌, append-nil, Memᴰ}
+use mathlib.Core.List.{List, [], Memᴰ}
 use native.Mathlib.Decide.{ℕ_discrete}
 use native.Mathlib.Omega.{arith}
-use lib.ListN.{drop, length, take, take-append-drop}
+use Rattle.std.proofs.lemmas.Bool.{false_from_ne_true}
+use Rattle.std.proofs.lemmas.List.{take_all}
+use lib.ListN.{drop, length-drop, take, take-append-drop}
 use Rattle.frame.specs.declared.Header.{Header}
 use Rattle.rules.specs.Mask.{names}
 use Rattle.rules.specs.Verdict.{sent_by}
 use Rattle.rules.specs.declared.Arrival.{Arrival}
-use Rattle.rules.specs.declared.Sending.{Sending}
-use Rattle.rules.specs.declared.Sending.TheVariants.{Nothing, Copies}
+use Rattle.std.specs.Prelude.{Option, Some, None}
+use Rattle.rules.specs.declared.Send.{Send}
 use Rattle.rules.proofs.Bits.{names_none}
 use Rattle.cabling.specs.declared.End.{End}
 use Rattle.cabling.specs.declared.Plug.{Plug}
@@ -73,7 +75,7 @@ module _ (plug : ℕ → Plug) (a : Arrival) (mask : ℕ) (h : Header) where
 member_take : {c : Copy} (n : ℕ) (cs : List Copy) → Memᴰ c (take n cs) → Memᴰ c cs
 member_take {c} n cs m = subst (Memᴰ c) (take-append-drop n cs) (Memᴰ.append_left (drop n cs) m)
 
-module _ (plug : ℕ → Plug) (a : Arrival) (s : Sending) (rest : List Copy) where
+module _ (plug : ℕ → Plug) (a : Arrival) (s : Option Send) (rest : List Copy) where
   -- what the laws of a turn say of it
   adds : Adds (new_copies plug a s) (nothing_sent rest) (send_out plug a s (nothing_sent rest))
   adds = sent_list plug a s (nothing_sent rest)
@@ -87,9 +89,9 @@ module _ (plug : ℕ → Plug) (a : Arrival) (s : Sending) (rest : List Copy) wh
   unfolding new_copies
   new_out {c} m = ⊎_elim inl (λ n. inr (by_sending s (member_take (room_in rest) (new_copies plug a s) n))) (Memᴰ.append_cases rest (subst (Memᴰ c) adds.flying m))
     where
-      by_sending : (s : Sending) → Memᴰ c (new_copies plug a s) → WentOut plug a (sent_by s).mask (sent_by s).header c
-      by_sending Nothing m = absurd (Memᴰ.not-nil m)
-      by_sending (Copies s) m = new_went plug a s.mask s.header most_ports 0 m
+      by_sending : (s : Option Send) → Memᴰ c (new_copies plug a s) → WentOut plug a (sent_by s).mask (sent_by s).header c
+      by_sending None m = absurd (Memᴰ.not-nil m)
+      by_sending (Some s) m = new_went plug a s.mask s.header most_ports 0 m
 
   -- and if none is lost, one goes over each such link
   pub placed_out : (p : ℕ) {e : End} → p < most_ports → names (sent_by s).mask p ≡ true → plug p ≡ Link e → (send_out plug a s (nothing_sent rest)).lost ≡ 0
@@ -98,19 +100,12 @@ module _ (plug : ℕ → Plug) (a : Arrival) (s : Sending) (rest : List Copy) wh
   placed_out p {e} within named there none =
       subst (Memᴰ _) (sym adds.flying) (Memᴰ.append_right rest (subst (Memᴰ _) (sym all) (by_sending s named)))
     where
-      -- a list of which nothing is dropped is taken whole
-      whole : (cs ds : List Copy) → length ds ≡ 0 → cs ++ ds ≡ cs
-      whole cs [] z = append-nil cs
-      whole cs (d ∷ ds) z = absurd (omega arith)
-
       all : take (room_in rest) (new_copies plug a s) ≡ new_copies plug a s
-      all =
-          sym (whole (take (room_in rest) (new_copies plug a s)) (drop (room_in rest) (new_copies plug a s)) (omega (arith, adds.lost)))
-          ∙ take-append-drop (room_in rest) (new_copies plug a s)
+      all = take_all (room_in rest) (new_copies plug a s) (omega (arith, adds.lost, length-drop (room_in rest) (new_copies plug a s)))
 
-      by_sending : (s : Sending) → names (sent_by s).mask p ≡ true → Memᴰ (copy_to (other_end e) a (sent_by s).header) (new_copies plug a s)
-      by_sending Nothing named = absurd (true≢false (sym named ∙ names_nothing p))
-      by_sending (Copies s) named = went_new plug a s.mask s.header most_ports 0 p (omega arith) (omega arith) named there
+      by_sending : (s : Option Send) → names (sent_by s).mask p ≡ true → Memᴰ (copy_to (other_end e) a (sent_by s).header) (new_copies plug a s)
+      by_sending None named = absurd (true≢false (sym named ∙ names_nothing p))
+      by_sending (Some s) named = went_new plug a s.mask s.header most_ports 0 p (omega arith) (omega arith) named there
 
   -- a host that is plugged in at port p alone receives exactly if the mask names p
   pub received_out : (i p : ℕ) → p < most_ports → plug p ≡ Host i → ((q : ℕ) → plug q ≡ Host i → q ≡ p)
@@ -126,8 +121,4 @@ module _ (plug : ℕ → Plug) (a : Arrival) (s : Sending) (rest : List Copy) wh
 
   -- one that isn't plugged in receives nothing
   pub unplugged_out : (i : ℕ) → ((q : ℕ) → plug q ≡ Host i → ⊥) → names (send_out plug a s (nothing_sent rest)).received i ≡ false
-  unplugged_out i none = by_test _ refl
-    where
-      by_test : (x : Bool) → names (send_out plug a s (nothing_sent rest)).received i ≡ x → x ≡ false
-      by_test true e = let w = (received_by_lem plug a s rest i).0 e in absurd (none w.port w.plugged)
-      by_test false e = refl
+  unplugged_out i none = false_from_ne_true _ (λ e. let w = (received_by_lem plug a s rest i).0 e in none w.port w.plugged)

@@ -1,4 +1,4 @@
--- Facts of an accepted network, in the words of a turn: how many switches and hosts it has, its hosts' addresses and ports, and what is plugged in where.
+-- Facts of an accepted network, in the words of a turn: how many hosts it has, its hosts' addresses and ports, and what is plugged in where.
 use Prim.Native.Nat.{ℕ, zero, suc, ◌≤◌, ◌<◌}
 use mathlib.Core.Path.{◌≡◌, refl, sym, ap, subst, ◌∙◌}
 use mathlib.Core.Logic.{by_cases}
@@ -10,13 +10,13 @@ use lib.ListN.{get_or, length}
 use Rattle.wire.specs.Address.{Source}
 use Rattle.network.specs.declared.Network.{Network}
 use Rattle.network.specs.declared.Host.{Host}
-use Rattle.network.specs.Network.{hosts_of, most_hosts, most_switches, no_host}
+use Rattle.network.specs.Network.{hosts_of, most_hosts, no_host}
 use Rattle.network.specs.Checks.{network_fault}
-use Rattle.network.proofs.Laws.{accepted_is_sound, host_is, hosts_long, switches_long}
+use Rattle.network.proofs.Laws.{accepted_is_sound, host_is, hosts_long}
 use Rattle.rules.specs.Mask.{names}
 use Rattle.cabling.specs.declared.End.{End}
 use Rattle.cabling.specs.declared.Plug.TheVariants.{Host as OfHost, Link as OfLink}
-use Rattle.cabling.specs.Cabling.{Stands, is_hosts, is_live, plugs_of, port_of, setup_of}
+use Rattle.cabling.specs.Cabling.{Stands, is_live, plugs_of, port_of, setup_of}
 use Rattle.cabling.proofs.Laws as cabling
 use Rattle.turn.specs.Turn.{host_of, plug_of}
 
@@ -27,10 +27,6 @@ pub record IsHosts (n : Network) (x : ℕ) : Type 0 where
   pub is : (host_of n host).address ≡ x
 
 module _ (n : Network) (fine : network_fault n ≡ 0) where
-  -- at most 16 switches
-  pub few_switches : n.nswitches ≤ most_switches
-  few_switches = rw (switches_long n) at (accepted_is_sound n fine).few_switches
-
   -- at most 32 hosts
   pub few_hosts : n.nhosts ≤ most_hosts
   few_hosts = rw (hosts_long n) at (accepted_is_sound n fine).few_hosts
@@ -84,11 +80,6 @@ module _ (n : Network) (fine : network_fault n ≡ 0) where
     pub live_is : (k p : ℕ) → names (setup_of n (plugs_of n) up k).live p ≡ is_live up (plug_of n k p)
     unfolding plug_of
     live_is = cabling.live_is n fine up
-
-    -- the host mask names the hosts' ports
-    pub hosts_is : (k p : ℕ) → names (setup_of n (plugs_of n) up k).host p ≡ is_hosts (plug_of n k p)
-    unfolding plug_of
-    hosts_is = cabling.hosts_is n fine up
 
 -- ---- Their addresses in a list
 

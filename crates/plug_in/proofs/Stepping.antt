@@ -1,8 +1,10 @@
 -- A head's step, seen as part of a flood: what its filter holds and its table has afterwards is what the rules leave, and the answer tells which port sent.
 use Prim.Native.Nat.{ℕ, ◌+◌, ◌^◌, ◌≤◌, ◌<◌}
 use mathlib.Core.Path.{◌≡◌, sym, ap, ◌∙◌}
+use mathlib.Core.Logic.{by_cases}
 use mathlib.Core.Bool.{Bool, true, false, ◌&&◌}
 use mathlib.Core.List.{List, [], ◌∷◌, ◌++◌}
+use native.Mathlib.Decide.{ℕ_discrete}
 use native.Mathlib.Nat.{mod-eq_of_lt}
 use native.Mathlib.Omega.{arith}
 use lib.Dec.{eqb}
@@ -11,7 +13,7 @@ use Rattle.wire.proofs.Laws.{written_back}
 use Rattle.table.specs.Table.{lookup_of}
 use Rattle.filter.specs.Filter.{holds}
 use Rattle.filter.specs.Triple.{triple}
-use Rattle.frame.specs.Header.{bit}
+use Rattle.frame.proofs.Laws.{bit_small}
 use Rattle.rules.specs.Mask.{names}
 use Rattle.rules.specs.Rules.{Ruled, rules}
 use Rattle.rules.specs.declared.Arrival.{Arrival}
@@ -20,19 +22,20 @@ use Rattle.seat.specs.declared.Seat.{Seat}
 use Rattle.seat.specs.Seat.{step_of}
 use Rattle.seat.proofs.Laws.{step_cells, step_setup, step_table}
 use Rattle.flight.specs.declared.Copy.{Copy}
-use Rattle.turn.specs.declared.Answer.{Answer}
+use Rattle.turn.specs.Turn.{Answer}
 use Rattle.bench.specs.declared.Bench.{Bench}
 use Rattle.bench.specs.Bench.{seat_at}
 use Rattle.counters.specs.History.{Moment as Happened}
 use Rattle.flood.specs.Mesh.{Mesh}
 use Rattle.flood.specs.Delivery.{Moment, Start}
 use Rattle.flood.specs.Records.{Records}
+use Rattle.flood.proofs.Laws.{Same}
 use Rattle.plug_in.specs.Words.{receives_by, sends_by, times}
 use Rattle.plug_in.proofs.Happening.{Steps, out_in, sent_in}
 use Rattle.plug_in.proofs.Mesh.{mesh}
 use Rattle.plug_in.proofs.Reached.{Reached}
 use Rattle.plug_in.proofs.Stand.{addresses, addresses_length, few_hosts, hosts_listed}
-use Rattle.plug_in.proofs.View.{found_in, head_inside, held_in, moment, records, start, times_more}
+use Rattle.plug_in.proofs.View.{found_in, head_inside, held_in, found_elsewhere, moment, records, same_record, start, times_more}
 
 -- two triples of different sources are different
 pub sources_apart : (m n : ℕ) {a b j k : ℕ} → a < 2 ^ 48 → b < 2 ^ 48 → triple a m j ≡ triple b n k → a ≡ b
@@ -57,6 +60,10 @@ moment_in b r x nonce c h = moment b.network b.up r.shape.described x (triple x 
 -- the records
 abbrev pub records_in : (b : Bench) (r : Reached b) → ℕ → Bench → Records (mesh_in b r)
 records_in b r x c = records b.network b.up r.shape.described x c
+
+-- a record stays where its entry does
+pub same_in : {b : Bench} (r : Reached b) (x : ℕ) (c : Bench) (t : ℕ) → found_in b.network c x t ≡ found_in b.network b x t → Same (records_in b r x b) (records_in b r x c) t
+same_in {b} r x c t e = same_record b.network b.up r.shape.described x b c t e
 
 -- ---- A step
 
@@ -90,7 +97,7 @@ module _ (b : Bench) (k : ℕ) (inside : k < b.network.nswitches) where
 
 -- ---- Afterwards
 
-module _ (b : Bench) (k : ℕ) (a : Arrival) (rest : List Copy) {c : Bench} {told : Answer} (v : Steps b k a rest c told) where
+module _ {b : Bench} {k : ℕ} {a : Arrival} {rest : List Copy} {c : Bench} {told : Answer} (v : Steps b k a rest c told) where
   module _ (inside : k < b.network.nswitches) where
     -- the filter holds what the rules left
     pub held_after : (key : List ℕ) → held_in b.network c key k ≡ keeps b k (ruled b k a).filter key
@@ -104,6 +111,11 @@ module _ (b : Bench) (k : ℕ) (a : Arrival) (rest : List Copy) {c : Bench} {tol
     pub found_after : (x : ℕ) → found_in b.network c x k ≡ lookup_of (ruled b k a).table x
     unfolding found_in
     found_after x = ap (λ (s : Seat). lookup_of s.switch.table x) (head_inside b.network c inside ∙ v.seat) ∙ ap (λ t. lookup_of t x) (step_table (seat_at b k) a)
+
+    -- where the rules leave what there was for an address, no table of the stand changes for it
+    pub found_stays : (x : ℕ) → lookup_of (ruled b k a).table x ≡ lookup_of (seat_at b k).switch.table x → (t : ℕ) → found_in b.network c x t ≡ found_in b.network b x t
+    found_stays x same t =
+        by_cases (ℕ_discrete t k) (λ e. rw e (found_after x ∙ same ∙ sym (found_at b k inside x))) (λ d. found_elsewhere v x t d)
 
   -- ---- The answer
 
@@ -125,8 +137,4 @@ times_one is h m e = times_more is h m ∙ rw e
 
 -- none adds more
 pub times_few : (is : Answer → Bool) (h : List Happened) (m : Happened) → times is (h ++ (m ∷ [])) ≤ times is h + 1
-times_few is h m = let e = times_more is h m in let few = small (is m.answer) in omega arith
-  where
-    small : (b : Bool) → bit b ≤ 1
-    small true = omega arith
-    small false = omega arith
+times_few is h m = let e = times_more is h m in let few = bit_small (is m.answer) in omega arith

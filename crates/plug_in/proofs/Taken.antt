@@ -7,7 +7,7 @@ use native.Mathlib.Omega.{arith}
 use lib.ListN.{length}
 use Rattle.frame.specs.declared.Header.{Header}
 use Rattle.network.specs.declared.Port.{Port}
-use Rattle.table.specs.declared.Found.TheVariants.{Entry as Here}
+use Rattle.std.specs.Prelude.{Some}
 use Rattle.table.specs.Table.{entry_of, lookup_of}
 use Rattle.rules.specs.declared.Arrival.{Arrival}
 use Rattle.cabling.specs.declared.Plug.TheVariants.{Link as OfLink}
@@ -16,8 +16,7 @@ use Rattle.cabling.proofs.Laws.{port_stands}
 use Rattle.flight.specs.declared.Copy.{Copy}
 use Rattle.flight.specs.Flight.{without}
 use Rattle.flight.proofs.Laws.{at_member, without_member, without_or_at}
-use Rattle.turn.specs.declared.Answer.{Answer}
-use Rattle.turn.specs.Turn.{copy_arrival, copy_at, end_of, plug_of, port_to}
+use Rattle.turn.specs.Turn.{Answer, copy_arrival, copy_at, end_of, plug_of, port_to}
 use Rattle.bench.specs.declared.Bench.{Bench}
 use Rattle.bench.specs.Bench.{in_flight}
 use Rattle.plug_in.proofs.Happening.{Steps}
@@ -62,7 +61,7 @@ takes b r place there o =
     }
 
 -- where it is learned, its switch has an entry at p with one hop more than it said
-pub entered : (b : Bench) {x nonce : ℕ} {d : Copy} {p : Port} {a : Arrival} {rest : List Copy} → Takes b x nonce d p a rest → {c : Bench} {told : Answer} → Steps b p.switch a rest c told
-    → lookup_of (ruled b p.switch a).table x ≡ Here (entry_of a.port a.header.hc) → found_in b.network c x p.switch ≡ Here (entry_of p.number (suc d.header.hc))
-entered b {x} {nonce} {d} {p} {a} {rest} t v e =
-    found_after b p.switch a rest v t.stands.switch x ∙ e ∙ ap (λ q. Here (entry_of q a.header.hc)) t.at ∙ ap (λ h. Here (entry_of p.number h)) t.counts
+pub entered : {b : Bench} {x nonce : ℕ} {d : Copy} {p : Port} {a : Arrival} {rest : List Copy} → Takes b x nonce d p a rest → {c : Bench} {told : Answer} → Steps b p.switch a rest c told
+    → lookup_of (ruled b p.switch a).table x ≡ Some (entry_of a.port a.header.hc) → found_in b.network c x p.switch ≡ Some (entry_of p.number (suc d.header.hc))
+entered {x} {d} {p} {a} t v e =
+    found_after v t.stands.switch x ∙ e ∙ ap (λ q. Some (entry_of q a.header.hc)) t.at ∙ ap (λ h. Some (entry_of p.number h)) t.counts

@@ -8,20 +8,19 @@ use native.Mathlib.Decide.{dec_lt}
 use native.Mathlib.Omega.{arith}
 use lib.Dec.{ltb}
 use borrow.Author.Tests.{le-ltb, lt-ltb}
+use Rattle.std.proofs.lemmas.Option.{same_Some}
 use Rattle.frame.specs.Header.{bit}
 use Rattle.network.specs.declared.Network.{Network}
 use Rattle.network.specs.declared.Port.{Port}
 use Rattle.network.specs.Checks.{network_fault}
-use Rattle.table.specs.declared.Found.{Found}
-use Rattle.table.specs.declared.Found.TheVariants.{Entry as Here, Absent}
+use Rattle.std.specs.Prelude.{Option, Some, None}
 use Rattle.table.specs.declared.Entry.{Entry}
 use Rattle.table.specs.Table.{entry_of, lookup_of}
 use Rattle.filter.specs.Filter.{holds}
 use Rattle.rules.specs.declared.Arrival.{Arrival}
 use Rattle.seat.specs.declared.Seat.{Seat}
 use Rattle.flight.specs.declared.Copy.{Copy}
-use Rattle.turn.specs.declared.Answer.{Answer}
-use Rattle.turn.specs.Turn.{host_of, port_to}
+use Rattle.turn.specs.Turn.{Answer, host_of, port_to}
 use Rattle.bench.specs.declared.Bench.{Bench}
 use Rattle.bench.specs.Bench.{in_flight, no_seat, seat_at}
 use Rattle.counters.specs.History.{Moment as Happened}
@@ -53,13 +52,13 @@ unfoldable pub held_in : Network → Bench → List ℕ → ℕ → Bool
 held_in n b key t = holds (head_at n b t).cells (head_at n b t).switch.setup.salt key
 
 -- what the table of head t has for an address
-unfoldable pub found_in : Network → Bench → ℕ → ℕ → Found
+unfoldable pub found_in : Network → Bench → ℕ → ℕ → Option Entry
 found_in n b x t = lookup_of (head_at n b t).switch.table x
 
 -- the hop count of what was found
-abbrev pub hops_of : Found → ℕ
-hops_of (Here e) = e.hops
-hops_of Absent = 0
+abbrev pub hops_of : Option Entry → ℕ
+hops_of (Some e) = e.hops
+hops_of None = 0
 
 -- where a head stays, so does its filter
 pub same_held : (n : Network) (b c : Bench) (key : List ℕ) (t : ℕ) → head_at n c t ≡ head_at n b t → held_in n c key t ≡ held_in n b key t
@@ -71,11 +70,22 @@ pub same_found : (n : Network) (b c : Bench) (x t : ℕ) → head_at n c t ≡ h
 unfolding found_in
 same_found n b c x t e = ap (λ (s : Seat). lookup_of s.switch.table x) e
 
+-- a head stays where a head of the stand does
+pub same_head : (n : Network) (b c : Bench) (t : ℕ) → (t < n.nswitches → seat_at c t ≡ seat_at b t) → head_at n c t ≡ head_at n b t
+same_head n b c t stays =
+    by_cases (dec_lt t n.nswitches) (λ h. head_inside n c h ∙ stays h ∙ sym (head_inside n b h)) (λ h. head_beyond n c (omega arith) ∙ sym (head_beyond n b (omega arith)))
+
 -- the heads that don't step stay
-pub others_stay : {b c : Bench} {k : ℕ} {a : Arrival} {rest : List Copy} {told : Answer} → Steps b k a rest c told → (t : ℕ) → t ≢ k → head_at b.network c t ≡ head_at b.network b t
-others_stay {b} {c} v t d =
-    by_cases (dec_lt t b.network.nswitches) (λ h. head_inside b.network c h ∙ v.others t h d ∙ sym (head_inside b.network b h))
-    (λ h. head_beyond b.network c (omega arith) ∙ sym (head_beyond b.network b (omega arith)))
+others_stay : {b c : Bench} {k : ℕ} {a : Arrival} {rest : List Copy} {told : Answer} → Steps b k a rest c told → (t : ℕ) → t ≢ k → head_at b.network c t ≡ head_at b.network b t
+others_stay {b} {c} v t d = same_head b.network b c t (λ h. v.others t h d)
+
+-- and so do their filters
+pub held_elsewhere : {b c : Bench} {k : ℕ} {a : Arrival} {rest : List Copy} {told : Answer} → Steps b k a rest c told → (key : List ℕ) (t : ℕ) → t ≢ k → held_in b.network c key t ≡ held_in b.network b key t
+held_elsewhere v key t d = same_held _ _ _ key t (others_stay v t d)
+
+-- and their tables
+pub found_elsewhere : {b c : Bench} {k : ℕ} {a : Arrival} {rest : List Copy} {told : Answer} → Steps b k a rest c told → (x t : ℕ) → t ≢ k → found_in b.network c x t ≡ found_in b.network b x t
+found_elsewhere v x t d = same_found _ _ _ x t (others_stay v t d)
 
 -- ---- The copies in flight
 
@@ -87,6 +97,10 @@ pub record Flies (n : Network) (x : ℕ) (b : Bench) (p : Port) (k : ℕ) : Type
   pub to : port_to n copy ≡ p
   pub hops : copy.header.hc ≡ k
 
+-- and so it is in another bench, where that copy is in flight
+pub still_flies : {n : Network} {x : ℕ} {b c : Bench} {p : Port} {k : ℕ} (w : Flies n x b p k) → Memᴰ w.copy (in_flight c) → Flies n x c p k
+still_flies w there = record { copy = w.copy; there = there; mine = w.mine; to = w.to; hops = w.hops }
+
 -- ---- The view
 
 module _ (n : Network) (up : List Bool) (fine : network_fault n ≡ 0) (x : ℕ) where
@@ -96,7 +110,7 @@ module _ (n : Network) (up : List Bool) (fine : network_fault n ≡ 0) (x : ℕ)
 
   -- its entries for x
   unfoldable pub records : Bench → Records (mesh n up fine)
-  records b = record { names = λ p. (h : ℕ) × (found_in n b x p.switch ≡ Here (entry_of p.number h)); hops = λ t. hops_of (found_in n b x t) }
+  records b = record { names = λ p. (h : ℕ) × (found_in n b x p.switch ≡ Some (entry_of p.number h)); hops = λ t. hops_of (found_in n b x t) }
 
   -- what a switch has recorded stays where its entry does
   pub same_record : (b c : Bench) (t : ℕ) → found_in n c x t ≡ found_in n b x t → Same (records b) (records c) t
@@ -108,17 +122,14 @@ module _ (n : Network) (up : List Bool) (fine : network_fault n ≡ 0) (x : ℕ)
       }
 
   -- an entry names its port alone
-  pub alone : (b : Bench) (p : Port) (h : ℕ) → found_in n b x p.switch ≡ Here (entry_of p.number h) → NamesAlone {M = mesh n up fine} p h (records b)
+  pub alone : (b : Bench) (p : Port) (h : ℕ) → found_in n b x p.switch ≡ Some (entry_of p.number h) → NamesAlone {M = mesh n up fine} p h (records b)
   unfolding records
   alone b p h e =
       record {
         named = (h, e);
-        only = λ q d v. same_port d (sym (ap (λ (e : Entry). e.port) (same_entry (sym (ap (found_in n b x) d ∙ e) ∙ v.1))));
+        only = λ q d v. same_port d (sym (ap (λ (e : Entry). e.port) (same_Some _ _ (sym (ap (found_in n b x) d ∙ e) ∙ v.1))));
         hops = ap hops_of e;
       }
-    where
-      same_entry : {e f : Entry} → Here e ≡ Here f → e ≡ f
-      same_entry q = cc
 
   -- where a flood of host A's frame begins: at its switch, with one hop, and all other hosts are to receive it
   abbrev pub start : ℕ → Start (mesh n up fine)
@@ -126,8 +137,16 @@ module _ (n : Network) (up : List Bool) (fine : network_fault n ≡ 0) (x : ℕ)
 
 -- ---- The history
 
+-- the port of host i sends a frame from x, by a report
+abbrev pub sends_to : ℕ → Network → ℕ → Answer → Bool
+sends_to x n i = sends_by x (host_of n i).port.switch (host_of n i).port.number
+
 -- with one answer more
 pub times_more : (is : Answer → Bool) (h : List Happened) (m : Happened) → times is (h ++ (m ∷ [])) ≡ times is h + bit (is m.answer)
 unfolding times
 times_more is [] m = omega arith
 times_more is (g ∷ h) m = let ih = times_more is h m in omega arith
+
+-- with an answer that says the same of both
+pub times_alike : (is js : Answer → Bool) (h : List Happened) (m : Happened) → times is h ≡ times js h → is m.answer ≡ js m.answer → times is (h ++ (m ∷ [])) ≡ times js (h ++ (m ∷ []))
+times_alike is js h m before same = let a = times_more is h m in let b = times_more js h m in cc

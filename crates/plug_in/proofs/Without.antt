@@ -3,18 +3,18 @@
 use Prim.Native.Nat.{ℕ}
 use mathlib.Core.Path.{◌≡◌, refl, sym, ap, subst, ◌∙◌}
 use mathlib.Core.Logic.{⊎_elim}
-use mathlib.Core.Bool.{Bool, true, false, not, ◌&&◌, true≢false}
+use mathlib.Core.Bool.{Bool, true, false, not, ◌&&◌}
 use mathlib.Core.List.Memᴰ
 use mathlib.Core.List.{List, [], ◌∷◌, ◌++◌, Memᴰ}
 use native.Mathlib.Omega.{arith}
 use lib.Dec.{eqb}
 use lib.ListN.{replicate}
-use borrow.Author.Tests.{eq-eqb}
+use borrow.Author.Tests.{both_ways, eq-eqb, not-true}
+use Rattle.std.proofs.lemmas.Bool.{and_parts}
+use Rattle.std.proofs.lemmas.Option.{none-some}
 use Rattle.network.specs.declared.Network.{Network}
 use Rattle.network.specs.Checks.{network_fault}
-use Rattle.table.specs.declared.Entry.{Entry}
-use Rattle.table.specs.declared.Found.{Found}
-use Rattle.table.specs.declared.Found.TheVariants.{Entry as Here, Absent}
+use Rattle.std.specs.Prelude.{Some, None}
 use Rattle.table.specs.Table.{entry_of, lookup_of}
 use Rattle.flight.specs.declared.Copy.{Copy}
 use Rattle.event.specs.declared.Event.{Event}
@@ -22,29 +22,12 @@ use Rattle.event.specs.declared.Event.TheVariants.{Link, Take}
 use Rattle.bench.specs.declared.Bench.{Bench}
 use Rattle.counters.specs.History.{State, fresh_state, history_of, run_of}
 use Rattle.counters.proofs.Laws.{InRun, fresh_in_run, run_in_run}
-use Rattle.table.specs.Table as table
-use Rattle.filter.specs.Filter as filter
-use Rattle.wire.specs.Wire as wire
-use Rattle.wire.specs.Address as addresses
-use Rattle.rules.specs.Mask as masks
-use Rattle.rules.specs.Rules as rule
-use Rattle.network.specs.Network as network
-use Rattle.network.specs.Checks as check
-use Rattle.cabling.specs.Cabling as cabling
-use Rattle.seat.specs.Seat as seat
-use Rattle.flight.specs.Flight as flight
-use Rattle.event.specs.Event as event
-use Rattle.turn.specs.Send as send
-use Rattle.turn.specs.Turn as turn
 use Rattle.bench.specs.Bench as bench
-use Rattle.bench.specs.Events as events
-use Rattle.counters.specs.Counters as counters
 use Rattle.plug_in.specs.Words as words
-use Rattle.plug_in.specs.Demand as demand
 use Rattle.plug_in.specs.Demand.{NoneFlies, sends}
 use Rattle.plug_in.specs.Words.{Cabled, HasRecord, JoinedTo, receives_by, sends_by, times}
 use Rattle.plug_in.proofs.Stands.{away, low, mesh, pair, ring, spur, star, trio}
-use Rattle.plug_in.proofs.Trying.{all_free, ends, history_tells, leaves, run_ends, tells}
+use Rattle.plug_in.proofs.Trying.{all_free, checking, computing, ends, history_tells, leaves, run_ends, tells}
 
 -- ---- The runs; host 0 sends to an address that is no host's
 
@@ -91,7 +74,7 @@ record Accepted : Type 0 where
   pub mesh : network_fault mesh ≡ 0
 
 accepted : Accepted
-unfolding pair low trio ring star spur mesh addresses.is_source network.limit_of network.empty_network network.up_to network.switches_of network.hosts_of network.links_of network.records network.add network.built network.cleared check.any check.taken check.stands check.not_above check.too_many check.out_of_order check.switch_out check.out_of_range check.port_taken check.address_out check.bad_address check.record_fault check.records_fault check.network_fault
+unfolding pair low trio ring star spur mesh checking
 accepted = record { pair = refl; low = refl; trio = refl; ring = refl; star = refl; spur = refl; mesh = refl }
 
 -- no copy of a list is from host 0
@@ -99,22 +82,18 @@ unfoldable none_flying : List Copy → Bool
 none_flying [] = true
 none_flying (c ∷ cs) = not (eqb c.source 2) && none_flying cs
 
--- a run of events that all take effect, after which no copy of the frame is in flight and switch k has no record
+-- a run of events that all take effect, after which no copy of the frame is in flight and switch k, which is joined to host 0's by live cables, has no record
 record Left (n : Network) (es : List Event) (k : ℕ) : Type 0 where
   pub free : all_free (fresh_state n) es ≡ true
   pub quiet : none_flying (bench.in_flight (ends (fresh_state n) es).bench) ≡ true
-  pub absent : lookup_of (bench.seat_at (ends (fresh_state n) es).bench k).switch.table 2 ≡ Absent
+  pub joined : JoinedTo (ends (fresh_state n) es).bench 0 k
+  pub absent : lookup_of (bench.seat_at (ends (fresh_state n) es).bench k).switch.table 2 ≡ None
 
 record Computed : Type 0 where
   pub aged_left : Left low aged 1
-  pub aged_cable : Cabled (ends (fresh_state low) aged).bench 0 1
   pub parted_left : Left pair parted 1
-  pub parted_cable : Cabled (ends (fresh_state pair) parted).bench 0 1
   pub crowded_left : Left star crowded 1
-  pub crowded_cable : Cabled (ends (fresh_state star) crowded).bench 0 1
   pub detour_left : Left spur detour 4
-  pub detour_cable : Cabled (ends (fresh_state spur) detour).bench 0 1
-  pub detour_spur : Cabled (ends (fresh_state spur) detour).bench 1 4
   pub forgot_free : all_free (fresh_state ring) forgot ≡ true
   pub forgot_twice : times (sends_by 2 1 0) (tells (fresh_state ring) forgot) ≡ 2
   pub before_free : all_free (fresh_state trio) before ≡ true
@@ -123,23 +102,23 @@ record Computed : Type 0 where
   pub known_none : times (receives_by 2 2) (tells (ends (fresh_state trio) before) known) ≡ 0
   pub longer_free : all_free (fresh_state mesh) longer ≡ true
   pub longer_quiet : none_flying (bench.in_flight (ends (fresh_state mesh) longer).bench) ≡ true
-  pub longer_entry : lookup_of (bench.seat_at (ends (fresh_state mesh) longer).bench 4).switch.table 2 ≡ Here (entry_of 1 4)
+  pub longer_entry : lookup_of (bench.seat_at (ends (fresh_state mesh) longer).bench 4).switch.table 2 ≡ Some (entry_of 1 4)
   pub shorter : Cabled (ends (fresh_state mesh) longer).bench 0 1
   pub shorter_on : Cabled (ends (fresh_state mesh) longer).bench 1 4
 
 computed : Computed
-unfolding pair low trio ring star spur mesh all_free ends leaves tells none_flying words.times table.empty_table table.slot_of table.found_at table.lookup_of table.put table.slot_for table.learn_at table.learn_of table.erase_at table.erase_of filter.hash filter.cell_of filter.same filter.empty filter.standing filter.has_cell filter.holds filter.overwrites filter.recorded wire.number_after wire.number masks.names masks.all_but rule.rule2 rule.is_duplicate rule.rule3 rule.overwrote3 rule.erases rule.rule5 rule.learns rule.rule6 rule.learning rule.standing rule.rule9 rule.rule10 rule.rule11 rule.onward rule.forwarding rule.rules network.limit_of network.empty_network network.add network.built cabling.port_of cabling.plug_in cabling.plug_host cabling.plug_link cabling.plug_all cabling.plugs_of cabling.plug_at cabling.is_live cabling.is_hosts cabling.mask_of cabling.setup_of seat.fresh_seat seat.from_host seat.from_link seat.step_of flight.without flight.spared event.address_of send.joins send.receives send.send_on send.send_at send.send_from send.send_out turn.own_refusal turn.host_of turn.plug_of turn.outbox_of turn.steps turn.host_arrival turn.presents turn.port_to turn.copy_arrival turn.takes turn.sets turn.head_of turn.turn_of bench.in_flight bench.seat_at bench.fresh_heads bench.fresh_bench events.follow events.turn_in events.event_of counters.adds counters.plus rule.nonce_on words.holds_at words.address_of_host words.home_of demand.frame_of
+unfolding pair low trio ring star spur mesh all_free ends leaves tells none_flying words.times computing
 computed =
     record {
-      aged_left = record { free = refl; quiet = refl; absent = refl };
-      aged_cable = record { near = record { link = 0; second = false }; there = omega arith; live = refl; from = refl; to = refl };
-      parted_left = record { free = refl; quiet = refl; absent = refl };
-      parted_cable = record { near = record { link = 0; second = false }; there = omega arith; live = refl; from = refl; to = refl };
-      crowded_left = record { free = refl; quiet = refl; absent = refl };
-      crowded_cable = record { near = record { link = 0; second = false }; there = omega arith; live = refl; from = refl; to = refl };
-      detour_left = record { free = refl; quiet = refl; absent = refl };
-      detour_cable = record { near = record { link = 0; second = false }; there = omega arith; live = refl; from = refl; to = refl };
-      detour_spur = record { near = record { link = 3; second = false }; there = omega arith; live = refl; from = refl; to = refl };
+      aged_left = record { free = refl; quiet = refl; joined = words.over words.here (record { near = record { link = 0; second = false }; there = omega arith; live = refl; from = refl; to = refl }); absent = refl };
+      parted_left = record { free = refl; quiet = refl; joined = words.over words.here (record { near = record { link = 0; second = false }; there = omega arith; live = refl; from = refl; to = refl }); absent = refl };
+      crowded_left = record { free = refl; quiet = refl; joined = words.over words.here (record { near = record { link = 0; second = false }; there = omega arith; live = refl; from = refl; to = refl }); absent = refl };
+      detour_left = record {
+        free = refl;
+        quiet = refl;
+        joined = words.over (words.over words.here (record { near = record { link = 0; second = false }; there = omega arith; live = refl; from = refl; to = refl })) (record { near = record { link = 3; second = false }; there = omega arith; live = refl; from = refl; to = refl });
+        absent = refl;
+      };
       forgot_free = refl;
       forgot_twice = refl;
       before_free = refl;
@@ -159,15 +138,11 @@ none_flies : (b : Bench) → none_flying (bench.in_flight b) ≡ true → NoneFl
 unfolding none_flying
 none_flies b q w = go (bench.in_flight b) q w.there
   where
-    and_true : (p z : Bool) → (not p && z) ≡ true → (p ≡ false) × (z ≡ true)
-    and_true true z e = absurd (true≢false (sym e))
-    and_true false z e = (refl, e)
-
     go : (cs : List Copy) → none_flying cs ≡ true → Memᴰ w.copy cs → ⊥
     go [] q m = Memᴰ.not-nil m
     go (c ∷ cs) q m =
-        let p = and_true (eqb c.source 2) (none_flying cs) q in
-        ⊎_elim (λ e. true≢false (sym (eq-eqb c.source 2 (sym (ap (λ (d : Copy). d.source) e) ∙ w.mine)) ∙ p.0)) (go cs p.1) (Memᴰ.cases_cons m)
+        let p = and_parts (not (eqb c.source 2)) (none_flying cs) q in
+        ⊎_elim (λ e. both_ways _ (not-true _ p.0) (eq-eqb c.source 2 (sym (ap (λ (d : Copy). d.source) e) ∙ w.mine))) (go cs p.1) (Memᴰ.cases_cons m)
 
 -- no copy of the frame is in flight, and a switch that is joined to host 0's by live cables has no record
 pub record Misses (b : Bench) (k : ℕ) : Type 0 where
@@ -175,29 +150,26 @@ pub record Misses (b : Bench) (k : ℕ) : Type 0 where
   pub joined : JoinedTo b 0 k
   pub unknown : HasRecord 2 b k → ⊥
 
-misses : (n : Network) → network_fault n ≡ 0 → (es : List Event) (k : ℕ) → Left n es k → JoinedTo (ends (fresh_state n) es).bench 0 k → Misses (run_of (fresh_state n) es).bench k
-misses n fine es k v j =
+misses : (n : Network) → network_fault n ≡ 0 → (es : List Event) (k : ℕ) → Left n es k → Misses (run_of (fresh_state n) es).bench k
+misses n fine es k v =
     subst (λ (s : State). Misses s.bench k) (sym (run_ends (fresh_in_run n fine) es v.free))
-    (record { quiet = none_flies (ends (fresh_state n) es).bench v.quiet; joined = j; unknown = λ r. here (sym v.absent ∙ r.found) })
-  where
-    here : {e : Entry} → ◌≡◌ {A = Found} Absent (Here e) → ⊥
-    here q = let z : ◌≡◌ {A = ℕ} 0 1 = cc in omega arith
+    (record { quiet = none_flies (ends (fresh_state n) es).bench v.quiet; joined = v.joined; unknown = λ r. none-some _ (sym v.absent ∙ r.found) })
 
 -- the limit one less than the number of switches
 pub aged_misses : Misses (run_of (fresh_state low) aged).bench 1
-aged_misses = misses low accepted.low aged 1 computed.aged_left (words.over words.here computed.aged_cable)
+aged_misses = misses low accepted.low aged 1 computed.aged_left
 
 -- a cable that changes
 pub parted_misses : Misses (run_of (fresh_state pair) parted).bench 1
-parted_misses = misses pair accepted.pair parted 1 computed.parted_left (words.over words.here computed.parted_cable)
+parted_misses = misses pair accepted.pair parted 1 computed.parted_left
 
 -- no room for the copy
 pub crowded_misses : Misses (run_of (fresh_state star) crowded).bench 1
-crowded_misses = misses star accepted.star crowded 1 computed.crowded_left (words.over words.here computed.crowded_cable)
+crowded_misses = misses star accepted.star crowded 1 computed.crowded_left
 
 -- limits above the diameter, but below the number of switches
 pub detour_misses : Misses (run_of (fresh_state spur) detour).bench 4
-detour_misses = misses spur accepted.spur detour 4 computed.detour_left (words.over (words.over words.here computed.detour_cable) computed.detour_spur)
+detour_misses = misses spur accepted.spur detour 4 computed.detour_left
 
 -- a record overwritten: the port of host 1 sends the frame twice
 pub forgot_twice : times (sends_by 2 1 0) (history_of (fresh_state ring) forgot) ≡ 2
@@ -223,7 +195,7 @@ known_unheard = subst Unheard (sym start) (record {
 -- a record that isn't shortest: in the end switch 4 names its port to switch 5, with four hops, though two cables lead to host 0's switch
 pub record NotShortest (b : Bench) : Type 0 where
   pub quiet : NoneFlies 2 b
-  pub entry : lookup_of (bench.seat_at b 4).switch.table 2 ≡ Here (entry_of 1 4)
+  pub entry : lookup_of (bench.seat_at b 4).switch.table 2 ≡ Some (entry_of 1 4)
   pub first : Cabled b 0 1
   pub second : Cabled b 1 4
 
