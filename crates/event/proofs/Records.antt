@@ -1,19 +1,15 @@
 -- One record: the tests that the code makes at a place are those of the definition, and what passes them is whole.
-use Prim.Native.Nat.{ℕ, ◌+◌, ◌-◌, ◌≤◌, ◌<◌}
-use mathlib.Core.Path.{◌≡◌, refl, sym, ap, ◌∙◌}
+use Prim.Native.Nat.{ℕ, ◌+◌, ◌≤◌}
+use mathlib.Core.Path.{◌≡◌, refl, ap, ◌∙◌}
 use mathlib.Core.Bool.{Bool, true, false, cond, not, ◌||◌}
 use mathlib.Core.List.{List}
-use native.Mathlib.Nat.{add_assoc}
 use native.Mathlib.Omega.{arith}
-use lib.ListN.{length, get_or, drop, length-drop}
-use lib.Seq.{get_or-drop, drop-drop}
+use lib.ListN.{length}
 use lib.Dec.{eqb, ltb}
-use borrow.Author.Tests.{lt-ltb, le-ltb, eq-eqb, ne_eqb, eqb-true, eqb-false, ltb-false, not-false}
+use borrow.Author.Tests.{le-ltb, eq-eqb, ne_eqb, eqb-true, eqb-false, ltb-false, not-false}
 use Rattle.refusal.proofs.Laws.{neither}
-use Rattle.wire.specs.Wire.{number, part}
 use Rattle.network.specs.Format.{length_in, kind_in, body_in, headless}
 use Rattle.event.specs.declared.Event.{Event}
-use Rattle.event.specs.declared.Event.TheVariants.{Present, Take, Link}
 use Rattle.event.specs.Event.{kind_of, event_length, size_of, event_of, event_in, bad_event}
 
 -- a record that starts here is all there

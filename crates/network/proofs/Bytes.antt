@@ -3,21 +3,20 @@ use Prim.Native.Nat.{ℕ, zero, suc, ◌+◌, ◌-◌, ◌^◌, ◌<◌, ◌≤�
 use mathlib.Core.Path.{◌≡◌, refl, sym, ap, ◌∙◌}
 use mathlib.Core.Bool.{Bool, true, false, cond, not, ◌||◌, true≢false}
 use mathlib.Core.List.{List, [], ◌∷◌, ◌++◌}
-use native.Mathlib.Nat.{add-zero, add_assoc, mod-eq_of_lt}
+use native.Mathlib.Nat.{mod-eq_of_lt}
 use native.Mathlib.Omega.{arith}
 use lib.ListN.{length, get_or, take, drop, take-append-drop, length-append, length-take, length-drop}
-use lib.Seq.{get_or-drop, drop-drop, drop-cons, take-add}
+use lib.Seq.{drop-cons, take-add}
 use lib.Dec.{eqb, ltb}
-use borrow.Author.Tests.{lt-ltb, le-ltb, eq-eqb, ne_eqb, eqb-true, eqb-false, ltb-false, not-false}
+use borrow.Author.Tests.{le-ltb, eq-eqb, ne_eqb, eqb-true, eqb-false, ltb-false, not-false}
 use Rattle.wire.specs.Wire.{number, bytes_of, part, AreBytes}
 use Rattle.wire.proofs.Laws.{written_back, read_back}
-use Rattle.network.specs.declared.Port.{Port}
 use Rattle.network.specs.declared.Record.{Record}
 use Rattle.network.specs.declared.Record.TheVariants.{Switch as OfSwitch, Host as OfHost, Link as OfLink}
 use Rattle.std.specs.Prelude.{Ok, Err, Option, Some, None}
 use Rattle.refusal.specs.declared.Refusal.{Refusal}
 use Rattle.refusal.specs.declared.Refusal.TheVariants.{BadRecord as Bad}
-use Rattle.network.specs.Format.{Start, kind_of, length_of, is_event, body_of, encode, port_in, record_of, length_in, kind_in, body_in, headless, misfit, start_of}
+use Rattle.network.specs.Format.{Start, kind_of, length_of, is_event, body_of, encode, record_of, length_in, kind_in, body_in, headless, misfit, start_of}
 
 -- neither of two tests holds
 pub neither : (a b : Bool) → a || b ≡ false → (a ≡ false) × (b ≡ false)

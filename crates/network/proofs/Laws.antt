@@ -1,7 +1,7 @@
 -- What callers cite: the answers told apart, the accepted networks and their lists; the round trips of proofs/Trip and the soundness of
 -- proofs/Soundness are passed on.
 use Prim.Native.Nat.{ℕ, zero, suc, suc-le-suc, ◌<◌, ◌≤◌}
-use mathlib.Core.Path.{◌≡◌, ap}
+use mathlib.Core.Path.{◌≡◌}
 use mathlib.Core.Logic.{by_cases}
 use mathlib.Core.List.{List, [], ◌∷◌, ◌++◌, map}
 use native.Mathlib.Nat.{mod-lt}
@@ -22,8 +22,8 @@ use Rattle.network.specs.declared.Record.TheVariants.{Switch as OfSwitch, Host a
 use Rattle.network.specs.Network.{no_switch, no_host, no_link, limit_of, switches_of, hosts_of, links_of, records}
 use Rattle.network.specs.Format.{kind_of, body_of, port_bytes, encode}
 use Rattle.network.specs.Checks.{network_fault}
-use Rattle.network.specs.Describe.{end_values, encode_all, image}
-use Rattle.network.specs.RoundTrip.{SameNetworks, ToldApart}
+use Rattle.network.specs.Describe.{end_values, encode_all, image, read_fault, read_network}
+use Rattle.network.specs.RoundTrip.{RefusedReadsNone, SameNetworks, ToldApart}
 use Rattle.network.specs.Sound.{FineSwitch, Standing, Sound}
 use Rattle.network.proofs.Lists.{up_to_at}
 use Rattle.network.proofs.Writing.{all_bytes}
@@ -39,6 +39,10 @@ ends_apart a b e = cc
 
 pub told_apart : ToldApart
 told_apart = refusal.told_apart ends_apart
+
+pub refused_reads_none : RefusedReadsNone
+unfolding read_network
+refused_reads_none b h = rw (ne_eqb (read_fault b) 0 h)
 
 -- element i of the lists is element i of the arrays
 pub switch_is : (n : Network) (i : ℕ) → i < n.nswitches → get_or (switches_of n) i no_switch ≡ get_or n.switches i no_switch

@@ -6,8 +6,8 @@ use mathlib.Core.List.{List, [], ◌∷◌, ◌++◌, Memᴰ}
 use native.Mathlib.Nat.{le_of_suc-le-suc, not-suc-le-zero}
 use native.Mathlib.Numerals.{add-one}
 use native.Mathlib.Omega.{arith}
-use lib.ListN.{length, get_or, take, drop, set, length-set, drop_of_length-le}
-use lib.Seq.{drop-cons, take-suc-set}
+use lib.ListN.{length, get_or, take, set, length-set}
+use lib.Seq.{take-suc-set}
 use Rattle.std.specs.List.{list_any}
 use Rattle.network.specs.Network.{up_to}
 use Rattle.network.specs.Checks.{any}

@@ -9,7 +9,7 @@ use lib.Seq.{drop-drop}
 use borrow.Author.Tests.{ne_eqb, lt-ltb, le-ltb, eqb-false}
 use lib.Dec.{eqb}
 use Rattle.refusal.specs.Number.{number_of}
-use Rattle.refusal.specs.Refusal.{when, first, answered}
+use Rattle.refusal.specs.Refusal.{when, first}
 use Rattle.network.specs.declared.Network.{Network}
 use Rattle.network.specs.declared.Record.{Record}
 use Rattle.std.specs.Prelude.{Ok, Err, Some, None}

@@ -15,7 +15,6 @@ use Rattle.network.specs.declared.Network.{Network}
 use Rattle.network.specs.declared.Record.{Record}
 use Rattle.network.specs.declared.Record.TheVariants.{Switch as OfSwitch, Host as OfHost, Link as OfLink}
 use Rattle.std.specs.Prelude.{Ok, Err, Some, None}
-use Rattle.refusal.specs.declared.Refusal.TheVariants.{BadRecord as Bad}
 use Rattle.network.specs.Network.{empty_network, records, add, built}
 use Rattle.network.specs.Format.{Start, encode, start_of}
 use Rattle.network.specs.Checks.{switch_out, out_of_range, stands, record_fault, records_fault, network_fault}

@@ -1,10 +1,10 @@
 -- What the reader and the writer are to each other. Each statement is a type; proofs/Laws has its term, under the same name in lower case.
-use Rattle.std.specs.Prelude.{ℕ, ◌≤◌, ◌≡◌, List, ◌++◌, length, take, None, Ok}
+use Rattle.std.specs.Prelude.{ℕ, ◌≤◌, ◌≡◌, ◌≢◌, List, ◌++◌, length, take, None, Ok}
 use Rattle.refusal.specs.Number.{told}
 use Rattle.refusal.specs.OneOutcome.{TellsApart}
 use Rattle.wire.specs.Wire.{AreBytes}
 use Rattle.network.specs.declared.Network.{Network}
-use Rattle.network.specs.Network.{cleared}
+use Rattle.network.specs.Network.{cleared, empty_network}
 use Rattle.network.specs.Format.{start_of}
 use Rattle.network.specs.Checks.{network_fault}
 use Rattle.network.specs.Describe.{end_values, read_fault, read_end, read_network, image}
@@ -41,6 +41,10 @@ SameNetworks = (n : Network) → (network_fault n ≡ 0 → Readable (cleared n)
 -- what the reader gives has all zeros at its unused places
 abbrev pub ReadsCleared : Type 0
 ReadsCleared = (b : List ℕ) → read_fault b ≡ 0 → cleared (read_network b) ≡ read_network b
+
+-- an input that is refused is read as no network
+abbrev pub RefusedReadsNone : Type 0
+RefusedReadsNone = (b : List ℕ) → read_fault b ≢ 0 → read_network b ≡ empty_network
 
 -- two answers that tell the same are the same
 abbrev pub ToldApart : Type 0

@@ -36,7 +36,8 @@ fn is_an_address(n: &Network, address: u64) -> bool
     ensures { result ≡ any (has_address address) (up_to no_host n.now.nhosts n.now.hosts) }
 {
     let count = n.nhosts as usize;
-    n.hosts.iter().take(count).any(|h| h.address == address) || Network::HOSTS < count && address == 0
+    n.hosts.iter().take(count).any(|h| h.address == address)
+        || Network::HOSTS < count && address == 0
 }
 
 fn has_end_at(l: Link, at: u64) -> bool

@@ -147,7 +147,17 @@ fn switch_bytes(s: Switch) -> [u8; SWITCH_SIZE]
     ensures { result ≡ encode (Record.Switch s) }
 {
     let [a, b, c, d] = s.salt.to_be_bytes();
-    [0, SWITCH_LENGTH, Kind::Switch as u8, s.ports, s.limit, a, b, c, d]
+    [
+        0,
+        SWITCH_LENGTH,
+        Kind::Switch as u8,
+        s.ports,
+        s.limit,
+        a,
+        b,
+        c,
+        d,
+    ]
 }
 
 #[tactic(auto, unfolding(crate::specs::Format::encode, crate::specs::Format::kind_of, crate::specs::Format::body_of, crate::specs::Format::length_of))]
@@ -156,7 +166,19 @@ fn host_bytes(h: Host) -> [u8; HOST_SIZE]
 {
     let [_, _, a, b, c, d, e, f] = h.address.to_be_bytes();
     let p = h.port;
-    [0, HOST_LENGTH, Kind::Host as u8, p.switch, p.number, a, b, c, d, e, f]
+    [
+        0,
+        HOST_LENGTH,
+        Kind::Host as u8,
+        p.switch,
+        p.number,
+        a,
+        b,
+        c,
+        d,
+        e,
+        f,
+    ]
 }
 
 #[tactic(auto, unfolding(crate::specs::Format::encode, crate::specs::Format::kind_of, crate::specs::Format::body_of, crate::specs::Format::length_of))]

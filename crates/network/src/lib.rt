@@ -99,13 +99,15 @@ impl Switch {
     };
 
     // The hop limit that the switch steps with.
+    #[tactic(auto, unfolding(crate::specs::Network::limit_of))]
     pub fn hop_limit(self) -> u8
         ensures { result ≡ limit_of self }
     {
         if self.limit == 0 {
-            return Switch::DEFAULT_LIMIT;
+            Switch::DEFAULT_LIMIT
+        } else {
+            self.limit
         }
-        self.limit
     }
 }
 
@@ -135,6 +137,7 @@ impl Network {
 
     pub const LINKS: usize = 64;
 
+    #[tactic(auto, unfolding(crate::specs::Network::empty_network))]
     pub fn empty() -> Self
         ensures { result ≡ empty_network }
     {

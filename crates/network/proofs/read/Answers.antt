@@ -21,18 +21,18 @@ pub returns-in_err-when-clause-answer : goal.returns-in_err-when-clause-answer
 returns-in_err-when-clause-answer c =
     let p = err_from_is_err_and c.from_residual.result c.from_residual.ensures.1 in
     let w = c.in_err-when.ensures.refused in
-    rw (p.1, p.2) (refused _ _ (too_long c.args.input.now (ltb-true _ _ w.1) ∙ sym (ap number_of w.0)))
+    rw (p.1, p.2) (refused _ _ (too_long c.args.input.now (omega (arith, ltb-true _ _ w.1)) ∙ sym (ap number_of w.0)))
 
 pub returns-in_err-when-2-clause-answer : goal.returns-in_err-when-2-clause-answer
 returns-in_err-when-2-clause-answer c =
     let p = err_from_is_err_and c.from_residual-in_err-when-2.result c.from_residual-in_err-when-2.ensures.1 in
     let w = c.in_err-when-2.ensures.refused in
     let fits = ltb-false _ _ c.in_ok-when.ensures.passed in
-    rw (p.1, p.2) (refused _ _ (no_version c.args.input.now fits (sym c.is_versionless.ensures ∙ w.1) ∙ sym (ap number_of w.0)))
+    rw (p.1, p.2) (refused _ _ (no_version c.args.input.now (omega (arith, fits)) (sym c.is_versionless.ensures ∙ w.1) ∙ sym (ap number_of w.0)))
 
 pub loop-r-init : goal.loop-r-init
 loop-r-init c =
-    reading_starts c.args.input.now (ltb-false _ _ c.in_ok-when.ensures.passed)
+    reading_starts c.args.input.now (omega (arith, ltb-false _ _ c.in_ok-when.ensures.passed))
     (sym c.is_versionless.ensures ∙ c.in_ok-when-2.ensures.passed) c.empty-network.ensures
 
 pub returns-in_err-r-clause-answer : goal.returns-in_err-r-clause-answer

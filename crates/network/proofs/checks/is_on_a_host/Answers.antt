@@ -1,5 +1,5 @@
 -- The search answers for the hosts that there are, one of all zeros for those behind the array's end.
-use mathlib.Core.Path.{◌≡◌, refl}
+use mathlib.Core.Path.{◌≡◌}
 use native.Mathlib.Omega.{arith}
 use lib.ListN.{length}
 use borrow.Author.Rules.{rules}
