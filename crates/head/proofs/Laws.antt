@@ -65,7 +65,7 @@ switch_test sw f sized = (switches.test_sound sw f sized, switches.test_complete
 module _ {sw : Switch} {f : List ℕ} (formed : WellFormed sw f) where
   -- so whoever has tested once may skip it
   pub without_1 : (port : ℕ) (frame : List ℕ) (room : ℕ) → refusal sw f port frame room ≡ refusal_but1 sw.setup port frame room
-  without_1 port frame room = sym (passed_1 sw f port frame room (sym (switches.test_complete sw f formed)))
+  without_1 port frame room = passed_1 sw f port frame room (sym (switches.test_complete sw f formed))
 
   -- the rules keep switch and filter well-formed, whatever port the nonce is for
   pub rules_keep : (a : Arrival) → Arrives sw.setup.ports a → (port : ℕ)

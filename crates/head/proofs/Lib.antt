@@ -7,4 +7,3 @@ mod LawsOfSwitch
 mod Output
 pub mod Refusals
 pub mod Rows
-mod Steps

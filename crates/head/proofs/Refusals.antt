@@ -10,7 +10,10 @@ use lib.ListN.{length}
 use lib.Pow.{pow_mono}
 use borrow.Author.Tests.{lt-leb, ltb-false, leb-false, not-false}
 use Rattle.std.specs.Prelude.{Err, Ok, OnOk, Result}
+use Rattle.refusal.specs.Number.{number_of}
 use Rattle.refusal.specs.Refusal.{first}
+use Rattle.refusal.specs.declared.Refusal.{Refusal}
+use Rattle.refusal.proofs.Told.{refused_apart}
 use Rattle.refusal.specs.Exact.{Numbered, NoneHolds}
 use Rattle.refusal.proofs.Laws.{none_holds, inside, first_front, first_behind_none}
 use Rattle.wire.specs.Address.{is_source}
@@ -38,6 +41,10 @@ room_on : (host : Bool) (n room : ℕ) → bad_length host n ≡ false → too_s
 room_on true n room e q = let p = inside 60 1514 n e in let r = ltb-false room (n + 6) q in record { long_enough = omega arith; fits = omega arith }
 room_on false n room e q = let p = inside 66 1520 n e in let r = ltb-false room n q in record { long_enough = omega arith; fits = omega arith }
 
+-- no refusal has the number 0
+pub some : (r : Refusal) → number_of r ≡ 0 → ⊥
+some r e = let none = refused_apart {A = Unit {0}} r (Ok tt) (sym e) in cc
+
 -- what a step that passed 2 to 9 knows
 module _ (s : Setup) (port : ℕ) (frame : List ℕ) (room : ℕ) (none : refusal_but1 s port frame room ≡ 0) where
   pub passed : NoneHolds (frame_causes s port frame room)
@@ -58,14 +65,13 @@ module _ (s : Setup) (port : ℕ) (frame : List ℕ) (room : ℕ) (none : refusa
 
 -- refusal 1, and then the others
 module _ (s : Switch) (f : List ℕ) (port : ℕ) (frame : List ℕ) (room : ℕ) where
-  pub refused_1 : {n : ℕ} → n ≡ first (switch_causes s f) → (n ≡ 0 → ⊥) → n ≡ refusal s f port frame room
+  pub refused_1 : (r : Refusal) → number_of r ≡ first (switch_causes s f) → refusal s f port frame room ≡ number_of r
   unfolding refusal
-  refused_1 {n} e some = sym (first_front n (switch_causes s f) (frame_causes s.setup port frame room) (sym e) some)
+  refused_1 r e = first_front (number_of r) (switch_causes s f) (frame_causes s.setup port frame room) (sym e) (some r)
 
-  pub passed_1 : 0 ≡ first (switch_causes s f) → refusal_but1 s.setup port frame room ≡ refusal s f port frame room
+  pub passed_1 : 0 ≡ first (switch_causes s f) → refusal s f port frame room ≡ refusal_but1 s.setup port frame room
   unfolding refusal refusal_but1
-  passed_1 e =
-      sym (first_behind_none (switch_causes s f) (frame_causes s.setup port frame room) (none_holds (switch_causes s f) (switch_numbered s f) (sym e)))
+  passed_1 e = first_behind_none (switch_causes s f) (frame_causes s.setup port frame room) (none_holds (switch_causes s f) (switch_numbered s f) (sym e))
 
 -- what holds anyway holds of an accepted call
 pub on_ok : {A E : Type 0} (r : Result A E) {P : Type 0} → P → OnOk r P

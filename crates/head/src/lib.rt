@@ -64,6 +64,7 @@ impl Switch {
 
     // One step: a frame on a port, with the filter and an output lent. Refusal 1, then the step
     // without it.
+    #[tactic(auto, using(crate::proofs::Refusals::passed_1))]
     pub fn step(
         &mut self,
         filter: &mut [u8],
