@@ -60,6 +60,7 @@ pub struct Host {
 
 impl Header {
     // Byte 0 carries L in bit 7, F in bit 6 and the hop count in bits 5 to 0.
+    #[tactic(auto, using(crate::proofs::Bytes::packed), unfolding(crate::specs::Header::byte0))]
     fn first_byte(self) -> u8
         ensures { result ≡ byte0 self }
     {
@@ -77,20 +78,16 @@ impl Header {
     pub fn pack(self) -> [u8; 4]
         ensures { result ≡ header_bytes self }
     {
-        let n = self.nonce;
-        [
-            self.first_byte(),
-            (n / 0x1_0000 % 256) as u8,
-            (n / 0x100 % 256) as u8,
-            (n % 256) as u8,
-        ]
+        let [_, high, middle, low] = self.nonce.to_be_bytes();
+        [self.first_byte(), high, middle, low]
     }
 
     // The header that the first four bytes carry.
+    #[tactic(auto, using(crate::proofs::Bytes::unpacked))]
     pub fn unpack(bytes: &[u8]) -> Header
         ensures { result ≡ header_of bytes.now }
     {
-        let b = wire::number_at(bytes, 0, 1) as u8;
+        let b = bytes.first().copied().unwrap_or(0);
         Header {
             l: b >> 7 & 1 == 1,
             f: b >> 6 & 1 == 1,
@@ -122,17 +119,15 @@ pub fn type_of(frame: &[u8]) -> u64
 pub fn is_tagged_twice(frame: &[u8]) -> bool
     ensures { result ≡ tagged_twice frame.now }
 {
-    type_of(frame) == Frame::OUR_TYPE && wire::number_at(frame, Frame::OLD_TYPE, 2) == Frame::OUR_TYPE
+    type_of(frame) == Frame::OUR_TYPE
+        && wire::number_at(frame, Frame::OLD_TYPE, 2) == Frame::OUR_TYPE
 }
 
 // The header of a tagged frame. What is too short for one has the header of four zeros.
 pub fn header_in(frame: &[u8]) -> Header
     ensures { result ≡ header_in frame.now }
 {
-    if frame.len() < Frame::HEADER {
-        return Header::unpack(&[]);
-    }
-    Header::unpack(&frame[Frame::HEADER..])
+    Header::unpack(frame.get(Frame::HEADER..).unwrap_or(&[]))
 }
 
 // A length without the tag's.
@@ -166,11 +161,12 @@ fn has_room(frame: &[u8], from: usize, room: usize) -> bool
 // A frame's addresses, our type, a header, and what stands from a place on, at the output's start
 // if there is room: from the type on that tags a frame, from the old type on it gives a tagged
 // frame a new header.
+#[tactic(auto, using(crate::proofs::Bytes::room_told, crate::proofs::Bytes::tag_put))]
 pub fn write_tagged(frame: &[u8], from: usize, h: Header, out: &mut [u8])
     ensures { out.new ≡ tag_into from frame.now h out.old }
 {
     if has_room(frame, from, out.len()) {
-        let our_type = [0x88u8, 0xB5];
+        let our_type = (Frame::OUR_TYPE as u16).to_be_bytes();
         let header = h.pack();
         wire::put_at(out, 0, &frame[..Frame::TYPE]);
         wire::put_at(out, Frame::TYPE, &our_type);
@@ -180,6 +176,7 @@ pub fn write_tagged(frame: &[u8], from: usize, h: Header, out: &mut [u8])
 }
 
 // The frame with a header, for a cable between switches. The answer is the tagged frame's length.
+#[tactic(auto, using(crate::proofs::Laws::taggable, crate::proofs::Laws::into_room), unfolding(crate::specs::Frame::tagged))]
 pub fn tag(frame: &[u8], h: Header, out: &mut [u8]) -> Result<usize, Refusal>
     ensures answer { told (λ n. n ∷ []) result ≡ tag_answer frame.now h (length out.old) }
     ensures output { out.new ≡ tag_output frame.now h out.old }
@@ -206,6 +203,7 @@ fn check_strip(frame: &[u8], room: usize) -> Result<(), Refusal>
 }
 
 // The host frame, at the output's start.
+#[tactic(auto, using(crate::proofs::Bytes::host_put))]
 fn write_stripped(frame: &[u8], out: &mut [u8])
     requires { (18 ≤ length frame.now) × (length frame.now ≤ length out.old + 6) }
     ensures { out.new ≡ at_start (stripped frame.now) out.old }
@@ -215,6 +213,7 @@ fn write_stripped(frame: &[u8], out: &mut [u8])
 }
 
 // The host frame and the header of a tagged frame.
+#[tactic(auto, using(crate::proofs::Laws::strippable))]
 pub fn strip(frame: &[u8], out: &mut [u8]) -> Result<Host, Refusal>
     ensures answer { told host_values result ≡ strip_answer frame.now (length out.old) }
     ensures output { out.new ≡ strip_output frame.now out.old }
