@@ -3,6 +3,7 @@
 ghost use Rattle.std.specs.Prelude.{◌≡◌, ◌^◌, ◌<◌, OnOk, leb, length};
 ghost use Rattle.refusal.specs.Number.{refused_as};
 ghost use Rattle.refusal.specs.Refusal.{first};
+ghost use Rattle.table.specs.Table.{Sized};
 ghost use Rattle.head.specs.Switch.{switch_causes};
 ghost use Rattle.head.specs.Step as spec;
 
@@ -22,7 +23,8 @@ fn names_beyond(ports: u8, mask: u16) -> bool
 impl Switch {
     // Refusal 1.
     pub fn check(&self, filter: &[u8]) -> Result<(), Refusal>
-        ensures { refused_as result ≡ first (switch_causes self.now filter.now) }
+        ensures refused { refused_as result ≡ first (switch_causes self.now filter.now) }
+        ensures sized { OnOk result (Sized self.now.table) }
     {
         let s = self.setup;
         Refusal::IllFormed.when(is_outside(1, 16, s.ports as usize))?;

@@ -2,9 +2,10 @@
 // is said of addresses and a header.
 #![tactic(auto)]
 
-ghost use Rattle.std.specs.Prelude.{◌≡◌, ◌<◌};
+ghost use Rattle.std.specs.Prelude.{◌≡◌, ◌<◌, OnOk};
 ghost use Rattle.refusal.specs.Refusal.{first};
 ghost use Rattle.refusal.specs.Number.{refused_as};
+ghost use Rattle.table.specs.Table.{Sized};
 ghost use Rattle.head.specs.Switch.{switch_causes};
 ghost use Rattle.seat.specs.Seat.{arrival_of, fresh_seat, from_link, host_header, seated_as, step_of, with_setup};
 
@@ -41,7 +42,8 @@ impl Seat {
 
     // Refusal 1 of the switch and its filter.
     pub fn check(&self) -> Result<(), Refusal>
-        ensures { refused_as result ≡ first (switch_causes self.now.switch self.now.cells) }
+        ensures refused { refused_as result ≡ first (switch_causes self.now.switch self.now.cells) }
+        ensures sized { OnOk result (Sized self.now.switch.table) }
     {
         self.switch.check(&self.cells)
     }

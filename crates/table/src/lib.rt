@@ -5,7 +5,7 @@
 #![tactic(auto)]
 
 ghost use Rattle.std.specs.Prelude.{false, ◌≡◌, ◌<◌};
-ghost use Rattle.table.specs.Table.{NoneOf, Passed, address_at, empty_table, erase_of, learn_of, learned_of, lookup_of, mark_of, marks, may_hold, put, slot_fits, slot_for, slot_of, slots, well_formed};
+ghost use Rattle.table.specs.Table.{Sized, NoneOf, Passed, address_at, empty_table, erase_of, learn_of, learned_of, lookup_of, mark_of, marks, may_hold, put, slot_fits, slot_for, slot_of, slots, well_formed};
 
 // Slot i is place i of the three arrays, and an empty slot is zero in all three.
 #[derive(Clone, Copy, PartialEq, Eq)]
@@ -86,7 +86,8 @@ impl Table {
     // Whether it can be the table of a switch of n ports. Each address sets its mark as its slot is passed, and only one that finds its mark
     // set is searched for: few searches instead of 64.
     pub fn is_well_formed(&self, n: u8) -> bool
-        ensures { result ≡ well_formed n self.now }
+        ensures test { result ≡ well_formed n self.now }
+        ensures sized { Sized self.now }
     {
         let mut seen = [false; MARKS];
         for i in 0..Table::SLOTS {

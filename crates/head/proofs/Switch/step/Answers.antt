@@ -10,7 +10,7 @@ pub returns-in_err-check : goal.returns-in_err-check
 returns-in_err-check c =
     let a = c.args in
     let p = err_from_is_err_and c.from_residual.result c.from_residual.ensures.1 in
-    rw (p.1, p.2, refused_1 a.self.now a.filter.now a.port a.frame.now (length a.out.now) _ c.in_err-check.ensures)
+    rw (p.1, p.2, refused_1 a.self.now a.filter.now a.port a.frame.now (length a.out.now) _ c.in_err-check.ensures.refused)
     (record {
       told = refused_answer refl (some _) _;
       switch = refused_leaves refl (some _) _ _;

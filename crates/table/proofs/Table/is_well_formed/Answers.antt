@@ -11,10 +11,11 @@ pub slot_fits-requires : goal.slot_fits-requires
 slot_fits-requires c = (search rules, unmarked c.loop-i.invariant c.loop-i-test.true _ c.mark_of-mark.ensures.mark (search rules))
 
 pub returns-then-not-slot_fits : goal.returns-then-not-slot_fits
-returns-then-not-slot_fits c = pass_fails c.loop-i.invariant c.loop-i-test.true (sym c.slot_fits.ensures ∙ c.if-not-slot_fits.true)
+returns-then-not-slot_fits c =
+    record { test = pass_fails c.loop-i.invariant c.loop-i-test.true (sym c.slot_fits.ensures ∙ c.if-not-slot_fits.true); sized = search rules }
 
 pub loop-i-preserved : goal.loop-i-preserved
 loop-i-preserved c = pass_next c.loop-i.invariant c.loop-i-test.true _ c.mark_of-mark.ensures.mark c.mark_of-mark.ensures.within (sym c.slot_fits.ensures ∙ c.if-not-slot_fits.false)
 
 pub returns : goal.returns
-returns c = pass_end c.loop-i.invariant (omega arith)
+returns c = record { test = pass_end c.loop-i.invariant (omega arith); sized = search rules }
