@@ -1,6 +1,6 @@
 -- What an event does to a bench: a refused one nothing, a frame or a copy makes one head step, and a setting changes link states and the copies on a link.
 use Prim.Native.Nat.{ℕ, ◌<◌}
-use mathlib.Core.Path.{◌≡◌, refl, sym, subst}
+use mathlib.Core.Path.{◌≡◌, refl, sym, ap, subst, ◌∙◌}
 use mathlib.Core.Logic.{◌⊎◌, ◌≢◌}
 use mathlib.Core.Bool.{Bool, true, false, cond, not}
 use mathlib.Core.List.{List, Memᴰ}
@@ -28,7 +28,7 @@ use Rattle.event.specs.Event.{address_of}
 use Rattle.std.specs.Prelude.{Ok, Err}
 use Rattle.turn.specs.declared.Done.TheVariants.{Stepped}
 use Rattle.turn.specs.Send.{Outbox, copy_to}
-use Rattle.turn.specs.Turn.{Answer, copy_arrival, copy_at, head_of, host_arrival, host_of, is_up, outbox_of, own_causes, own_refusal, plug_of, port_to, presents, sets, spared_by, step_report, steps, takes, turn_of}
+use Rattle.turn.specs.Turn.{Answer, Turn, copy_arrival, copy_at, head_of, host_arrival, host_of, is_up, outbox_of, own_causes, own_refusal, plug_of, port_to, presents, sets, spared_by, step_report, steps, takes, turn_of}
 use Rattle.bench.specs.declared.Bench.{Bench}
 use Rattle.bench.specs.Bench.{in_flight, seat_at}
 use Rattle.bench.specs.Events.{event_of, turn_in}
@@ -88,35 +88,34 @@ pub record Sets (b : Bench) (l : ℕ) (state : Bool) (c : Bench) : Type 0 where
   pub flying : in_flight c ≡ spared_by state l (in_flight b)
 
 module _ (b : Bench) (sized : Sized b) where
+  -- an event whose turn is a head's step
+  made : (e : Event) {k : ℕ} {a : Arrival} {rest : List Copy} → turn_in b e ≡ steps b.network b.up k (seat_at b k) a rest
+      → seat_at (event_of b e).bench k ≡ (step_of (seat_at b k) a).seat → ((j : ℕ) → j < b.network.nswitches → j ≢ k → seat_at (event_of b e).bench j ≡ seat_at b j)
+      → Steps b k a rest (event_of b e).bench (event_of b e).answer
+  unfolding steps
+  made e turn seat others =
+      record {
+        network = event_network b e;
+        up = event_up b e ∙ ap (λ (t : Turn). t.up) turn;
+        seat = seat;
+        others = others;
+        flying = in_flight_after b e ∙ ap (λ (t : Turn). t.flying) turn;
+        answer = event_answer b e ∙ ap (λ (t : Turn). Ok t.done) turn;
+      }
+
   -- a host's frame makes its head step
   pub presented : (p : Presented) → Accepted b (Present p)
       → Steps b (host_of b.network p.host).port.switch (host_arrival (seat_at b (host_of b.network p.host).port.switch) (host_of b.network p.host) (address_of p.to)) (in_flight b)
       (event_of b (Present p)).bench (event_of b (Present p)).answer
-  unfolding turn_in head_of turn_of presents steps
-  presented p ok =
-      record {
-        network = event_network b (Present p);
-        up = event_up b (Present p);
-        seat = (each_is_the_step b (Present p) sized ok).seat;
-        others = (nothing_else_changes b (Present p) sized ok).seats;
-        flying = in_flight_after b (Present p);
-        answer = event_answer b (Present p);
-      }
+  unfolding turn_in head_of turn_of presents
+  presented p ok = made (Present p) refl (each_is_the_step b (Present p) sized ok).seat (nothing_else_changes b (Present p) sized ok).seats
 
   -- a copy that is taken makes the head that receives it step
   pub taken : (place : ℕ) → Accepted b (Take place)
       → Steps b (port_to b.network (copy_at (in_flight b) place)).switch (copy_arrival b.network (copy_at (in_flight b) place)) (without place (in_flight b))
       (event_of b (Take place)).bench (event_of b (Take place)).answer
-  unfolding turn_in head_of turn_of takes steps
-  taken place ok =
-      record {
-        network = event_network b (Take place);
-        up = event_up b (Take place);
-        seat = (each_is_the_step b (Take place) sized ok).seat;
-        others = (nothing_else_changes b (Take place) sized ok).seats;
-        flying = in_flight_after b (Take place);
-        answer = event_answer b (Take place);
-      }
+  unfolding turn_in head_of turn_of takes
+  taken place ok = made (Take place) refl (each_is_the_step b (Take place) sized ok).seat (nothing_else_changes b (Take place) sized ok).seats
 
   -- a link is set
   pub linked : (e : Setting) → Accepted b (Link e) → Sets b e.link (is_up e.state) (event_of b (Link e)).bench
