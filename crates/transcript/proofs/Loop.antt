@@ -112,7 +112,7 @@ module _ {n : Network} {p : Parts} {c : Counters} {many : ℕ} (v : Stands n p c
     module _ (early : many < 1_000_000) (a : Answer) (acts : Acts n p e a q) where
       happens_on : (happens_at (state_on n p c) e).happened ≡ happened_as (bench_on n q) a
       unfolding bench_on
-      happens_on = event_on n p v.kept e c (event_accepted_in_run v.sound (omega (arith, v.accepted)) e) there (omega (arith, few_switches n described, v.heads)) a q acts
+      happens_on = event_on n p v.kept e c (event_accepted_in_run v.sound (omega (arith, v.accepted)) e) a q there (omega (arith, few_switches n described, v.heads)) acts
 
       pub after_on : after (state_on n p c) e ≡ state_on n q (happens_at (state_on n p c) e).counters
       unfolding after

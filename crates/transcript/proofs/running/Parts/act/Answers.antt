@@ -19,10 +19,10 @@ use Rattle.transcript.specs.Running.{copies_of, head_at, refusal_at, seated_at, 
 use Rattle.transcript.proofs.running.Parts.act.Goals as goal
 
 -- head k as it is lent
-lent : (n : Network) (p : Parts) (k : ℕ) {j : ℕ} {plugs : List ℕ} {setup : Setup} {s d : Seat}
+lent : (n : Network) (p : Parts) (k : ℕ) {j : ℕ} {plugs : List ℕ} {setup : Setup} {s : Seat} (d : Seat)
     → s ≡ with_setup setup (get_or p.seats k d) → setup ≡ setup_of n plugs p.up k → plugs ≡ plugs_of n → k ≡ j → k < length p.seats → s ≡ seated_at n p.up j (get_or p.seats j no_seat)
 unfolding seated_at
-lent n p k {d = d} is set_up plugged same within =
+lent n p k d is set_up plugged same within =
     is ∙ ap (λ w. with_setup w (get_or p.seats k d)) (set_up ∙ ap (λ ps. setup_of n ps p.up k) plugged)
     ∙ ap (λ s. seated_at n p.up k s) (get_or_default p.seats k d no_seat within) ∙ ap (λ i. seated_at n p.up i (get_or p.seats i no_seat)) same
 
@@ -42,6 +42,6 @@ returns c =
       free = free;
       seat = t.new.seat;
       turns = subst (λ s. Turns (turn_of n p.up s (copies_of p) e) t.new.up t.new.seat t.new.words t.result.flying t.result.done)
-          (lent n p k c.set_up.ensures c.setup_of-setup.ensures c.requires.plugged is within) t.ensures.turns;
+          (lent n p k _ c.set_up.ensures c.setup_of-setup.ensures c.requires.plugged is within) t.ensures.turns;
       seats = ap (λ j. set p.seats j t.new.seat) is;
     }
