@@ -1,10 +1,13 @@
 -- Bytes compared, and bytes read as numbers.
-use Rattle.std.proofs.Common.{◌≡◌, ℕ, zero, suc, ◌+◌, ◌*◌, ◌<◌, ◌≤◌, Bool, true, false, ◌&&◌, eqb, List, [], ◌∷◌, ◌++◌, length, get_or, drop, sym, refl, ap, ◌∙◌, add-one, arith, length-drop, length-take, drop-cons, drop-drop, take-add, eq-eqb, ne_eqb, eqb-true}
+use Rattle.std.proofs.Common.{◌≡◌, ℕ, zero, suc, ◌+◌, ◌*◌, ◌≤◌, Bool, true, false, ◌&&◌, eqb, List, [], ◌∷◌, length, drop, sym, refl, ap, ◌∙◌, arith, length-drop, length-take, eq-eqb, ne_eqb, eqb-true}
+use Rattle.std.specs.Prelude.{◌↔◌, ◌-◌, IsTrue, All, take}
 use mathlib.Core.Logic.{by_cases}
+use lib.Pointwise.{pointwise}
 use native.Mathlib.Decide.{ℕ_discrete}
-use lib.ListN.{length-replicate}
+use lib.ListN.{length-replicate, get_or-replicate}
 use Rattle.wire.specs.Wire.{number, number_after, part}
-use Rattle.filter.specs.Filter.{same, empty, zeros}
+use Rattle.std.specs.List.{fold}
+use Rattle.filter.specs.Filter.{mixed, hash, same, empty, zeros}
 
 pub true_false : true ≡ false → ⊥
 true_false e = let z : ◌≡◌ {A = ℕ} 0 1 = cc in omega arith
@@ -39,29 +42,16 @@ zeros_long n = length-replicate n 0
 pub part_long : (f : List ℕ) (at k : ℕ) → at + k ≤ length f → length (part at k f) ≡ k
 part_long f at k room = simp (length-take, length-drop) (omega arith)
 
--- a number is read on where the bytes go on
-after_append : (m : ℕ) (a b : List ℕ) → number_after m (a ++ b) ≡ number_after (number_after m a) b
-unfolding number_after
-after_append m [] b = refl
-after_append m (x ∷ xs) b = after_append (m * 256 + x) xs b
+-- slices are compared byte by byte
+pointwise_same : (a b : List ℕ) → pointwise eqb a b ≡ same a b
+unfolding same
+pointwise_same [] [] = refl
+pointwise_same [] (y ∷ ys) = refl
+pointwise_same (x ∷ xs) [] = refl
+pointwise_same (x ∷ xs) (y ∷ ys) = rw (pointwise_same xs ys)
 
-pub number_more : (f : List ℕ) (at j k : ℕ) → number (part at (j + k) f) ≡ number_after (number (part at j f)) (part (at + j) k f)
-unfolding number
-number_more f at j k = rw (take-add j k (drop at f), after_append, drop-drop)
-
-two : (f : List ℕ) (at : ℕ) → at + 2 ≤ length f → part at 2 f ≡ get_or f at 0 ∷ get_or f (at + 1) 0 ∷ []
-two f at h =
-    let first : at < length f = omega arith in
-    let second : suc at < length f = omega arith in
-    rw (add-one, drop-cons f at 0 first, drop-cons f (suc at) 0 second)
-
-pub two_bytes : (f : List ℕ) (at : ℕ) → at + 2 ≤ length f → number (part at 2 f) ≡ get_or f at 0 * 256 + get_or f (at + 1) 0
-unfolding number number_after
-two_bytes f at h = rw (two f at h) (omega arith)
-
-pub two_more : (f : List ℕ) (at j : ℕ) → at + j + 2 ≤ length f → number (part at (j + 2) f) ≡ number (part at j f) * 65536 + number (part (at + j) 2 f)
-unfolding number number_after
-two_more f at j h = number_more f at j 2 ∙ rw (two f (at + j) h) (omega arith)
+pub slice_same : (f key : List ℕ) (at : ℕ) → pointwise eqb (take (at + length key - at) (drop at f)) key ≡ same (part at (length key) f) key
+slice_same f key at = let long : at + length key - at ≡ length key = omega arith in rw long (pointwise_same (part at (length key) f) key)
 
 -- only zeros write the number zero
 after_zero : (m : ℕ) (bs : List ℕ) → number_after m bs ≡ 0 → (m ≡ 0) × (bs ≡ zeros (length bs))
@@ -95,3 +85,18 @@ empty_number l =
     by_cases (ℕ_discrete (number l) 0)
     (λ e. zeros_empty l (number_zero l e) ∙ sym (eq-eqb (number l) 0 e))
     (λ d. refuted (empty l) (λ e. d (ap number (empty_true l e) ∙ zeros_number (length l))) ∙ sym (ne_eqb (number l) 0 d))
+
+-- bytes are empty where each of them is zero
+pub all_empty : (r : Bool) (l : List ℕ) → (IsTrue r ↔ All (λ b. b ≡ 0) l) → r ≡ empty l
+all_empty true l h = sym (zeros_empty l (clear l (h.0 refl)))
+  where
+    clear : (l : List ℕ) → All (λ b. b ≡ 0) l → l ≡ zeros (length l)
+    clear [] a = refl
+    clear (b ∷ l) a = rw (a 0 0 (omega arith), ← clear l (λ k d h. a (suc k) d (omega arith)))
+all_empty false l h = sym (refuted (empty l) (λ e. true_false (sym (h.1 (λ k d p. rw (empty_true l e) (get_or-replicate (length l) k 0 d p))))))
+
+-- a hash is a fold over the key's bytes
+pub folded : (h : ℕ) (key : List ℕ) → fold mixed h key ≡ hash h key
+unfolding hash
+folded h [] = refl
+folded h (b ∷ bs) = folded (mixed h b) bs

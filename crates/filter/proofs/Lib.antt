@@ -1,6 +1,5 @@
 pub mod Laws
 mod Bytes
-mod Loops
 mod Cells
 mod Places
 mod Records

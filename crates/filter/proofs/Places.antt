@@ -1,11 +1,11 @@
 -- Where cells lie: within the filter, and apart from one another; and what stands in one after a key was put into another.
-use Rattle.std.proofs.Common.{◌≡◌, ℕ, ◌+◌, ◌-◌, ◌*◌, ◌/◌, ◌%◌, ◌<◌, ◌≤◌, Bool, true, false, not, List, ◌++◌, length, take, drop, sym, refl, ap, ◌∙◌, append_assoc, mul-le-mul_right, mod-lt, suc-mul, div-mul-le_self, arith, length-append, length-drop, take-append-drop, length-take, length-take-le, drop-drop, take_at, drop_at, ltb-true, le-ltb, lt-ltb}
+use Rattle.std.proofs.Common.{◌≡◌, ℕ, ◌+◌, ◌-◌, ◌*◌, ◌/◌, ◌%◌, ◌<◌, ◌≤◌, true, false, not, List, ◌++◌, length, take, drop, sym, refl, ap, ◌∙◌, append_assoc, mul-le-mul_right, mod-lt, suc-mul, div-mul-le_self, arith, length-append, length-drop, take-append-drop, length-take, length-take-le, drop-drop, take_at, drop_at, ltb-true, le-ltb, lt-ltb}
 use native.Mathlib.Nat.{lt-div-mul-add}
 use lib.Seq.{drop-append-le, drop-append-add, take-append-le}
 use Rattle.wire.specs.Wire.{part, put, put_in}
 use Rattle.wire.proofs.Laws.{put_fits}
 use Rattle.filter.proofs.Bytes.{both_true, same_true, same_refl}
-use Rattle.filter.specs.Filter.{hash, cells, cell, cell_of, standing, has_cell, holds, overwrites, recorded, same, empty}
+use Rattle.filter.specs.Filter.{Begins, hash, cells, cell, cell_of, standing, has_cell, holds, overwrites, recorded, same, empty}
 
 -- cells that come one after the other
 pub next : {j k : ℕ} (width : ℕ) → j < k → j * width + width ≤ k * width
@@ -40,34 +40,28 @@ pub own_cell : (f : List ℕ) (salt : ℕ) (key : List ℕ) → has_cell f key �
 unfolding has_cell cell_of
 own_cell f salt key h = mod-lt (hash salt key) (ltb-true 0 (length f / length key) h)
 
--- at is where the key's cell begins, in a filter that has one
-pub record Begins (f : List ℕ) (salt : ℕ) (key : List ℕ) (at : ℕ) : Type 0 where
-  pub has : has_cell f key ≡ true
-  pub place : at ≡ cell_of f salt key * length key
-  pub room : at + length key ≤ length f
-
-pub begins : {f : List ℕ} {salt : ℕ} {key : List ℕ} {at count : ℕ} → count ≡ length f / length key → (count ≡ 0 → ⊥) → at ≡ hash salt key % count * length key → Begins f salt key at
+-- which is where the code looks, in a filter that has one
+pub begins : (f : List ℕ) (salt : ℕ) (key : List ℕ) → 0 < length f / length key → Begins f salt key (hash salt key % (length f / length key) * length key)
 unfolding cell_of
-begins {f} {salt} {key} {at} {count} e some place =
-    let has : has_cell f key ≡ true = some_cell f key (rw e at some) in
-    let here : at ≡ cell_of f salt key * length key = rw e at place in
-    record { has = has; place = here; room = rw here (cell_room f (length key) (own_cell f salt key has)) }
+begins f salt key some =
+    let has : has_cell f key ≡ true = some_cell f key (omega arith) in
+    record { has = has; place = refl; room = cell_room f (length key) (own_cell f salt key has) }
 
 -- what the code finds there is what the definitions say
-module _ {f : List ℕ} {salt : ℕ} {key : List ℕ} {at : ℕ} (b : Begins f salt key at) where
-  pub holds_there : {r : Bool} → r ≡ same (part at (length key) f) key → r ≡ holds f salt key
+module _ (f : List ℕ) (salt : ℕ) (key : List ℕ) (at : ℕ) (b : Begins f salt key at) where
+  pub holds_there : same (part at (length key) f) key ≡ holds f salt key
   unfolding holds standing
-  holds_there e = e ∙ rw (b.has, b.place)
+  holds_there = rw (b.has, b.place)
 
-  pub overwrites_there : {r : Bool} → holds f salt key ≡ false → r ≡ empty (part at (length key) f) → not r ≡ overwrites f salt key
+  pub overwrites_there : holds f salt key ≡ false → not (empty (part at (length key) f)) ≡ overwrites f salt key
   unfolding holds overwrites standing
-  overwrites_there other e =
+  overwrites_there other =
       let differs : same (part (cell_of f salt key * length key) (length key) f) key ≡ false = rw b.has at other in
-      ap not e ∙ rw (b.has, differs, b.place)
+      rw (b.has, differs, b.place)
 
-  pub recorded_there : {g : List ℕ} → g ≡ put_in f at key → g ≡ recorded f salt key
+  pub recorded_there : put_in f at key ≡ recorded f salt key
   unfolding recorded
-  recorded_there e = e ∙ rw (put_fits f at key b.room, b.has, b.place)
+  recorded_there = rw (put_fits f at key b.room, b.has, b.place)
 
 -- what is read before the seam
 part_front : (xs ys : List ℕ) (at width : ℕ) → at + width ≤ length xs → part at width (xs ++ ys) ≡ part at width xs

@@ -1,6 +1,6 @@
 -- The filter of document 01, "The head's switch", over any key and any number of cells: a cell is as wide as the key.
 -- `hash`, `cells`, `cell`, `cell_of`, `zeros`, `empty`, `has_cell`, `holds`, `overwrites`, `recorded` and `Names` are the interface; the rest serves them.
-use Rattle.std.specs.Prelude.{◌≡◌, ℕ, ◌+◌, ◌*◌, ◌/◌, ◌%◌, ◌^◌, ◌<◌, Bool, true, false, cond, not, ◌&&◌, List, [], ◌∷◌, length, take, replicate, ◌==◌, bit_or, bit_xor, nat_lt}
+use Rattle.std.specs.Prelude.{◌≡◌, ℕ, ◌+◌, ◌*◌, ◌/◌, ◌%◌, ◌^◌, ◌<◌, ◌≤◌, Bool, true, false, cond, not, ◌&&◌, List, [], ◌∷◌, length, take, replicate, ◌==◌, bit_or, bit_xor, nat_lt}
 use Rattle.wire.specs.Wire.{part, put}
 
 -- h, of 32 bits, rotated left by 5
@@ -62,6 +62,12 @@ overwrites f salt key = has_cell f key && not (same (standing f salt key) key) &
 -- the filter with the key recorded: its cell is overwritten; where there is no cell, nothing changes
 unfoldable pub recorded : List ℕ → ℕ → List ℕ → List ℕ
 recorded f salt key = cond (has_cell f key) (put f (cell_of f salt key * length key) key) f
+
+-- at is where the key's cell begins, in a filter that has one
+pub record Begins (f : List ℕ) (salt : ℕ) (key : List ℕ) (at : ℕ) : Type 0 where
+  pub has : has_cell f key ≡ true
+  pub place : at ≡ cell_of f salt key * length key
+  pub room : at + length key ≤ length f
 
 -- some cell begins with these bytes: with a source's six it names that source, with a whole key it is that key's record
 pub record Names (width : ℕ) (front f : List ℕ) : Type 0 where

@@ -1,15 +1,13 @@
-use Rattle.std.proofs.Common.{sym, ◌∙◌, arith}
-use Rattle.filter.proofs.Loops.{passed_starts, passed_next, passed_fails, passed_ends}
+-- Each chunk of ten bytes is a cell.
+use Rattle.std.proofs.Common.{◌≡◌, true, rules}
+use Rattle.std.specs.Prelude.{◌↔◌, IsTrue, All}
+use Rattle.std.specs.Simd.{first_chunks}
+use Rattle.filter.specs.Filter.{cells}
+use Rattle.filter.specs.Triple.{width, is_cell}
+use Rattle.filter.proofs.Cells.{all_chunks}
 use Rattle.filter.proofs.cells_fit.Goals as goal
 
-pub loop-k-init : goal.loop-k-init
-loop-k-init c = passed_starts _ _
-
-pub loop-k-preserved : goal.loop-k-preserved
-loop-k-preserved c = passed_next c.loop-k.invariant (omega arith) (sym c.cell_fits.ensures ∙ c.if-cell_fits.true)
-
-pub returns-else-cell_fits : goal.returns-else-cell_fits
-returns-else-cell_fits c = passed_fails c.loop-k.invariant (omega arith) (sym c.cell_fits.ensures ∙ c.if-cell_fits.false)
-
 pub returns : goal.returns
-returns c = passed_ends c.loop-k.invariant (omega arith)
+returns c =
+    let each : IsTrue c.all.result ↔ All (λ b. is_cell b ≡ true) (first_chunks width (cells width c.args.filter.now) c.args.filter.now) = search rules in
+    all_chunks _ _ _ each

@@ -1,15 +1,12 @@
-use Rattle.std.proofs.Common.{arith}
-use Rattle.filter.proofs.Loops.{clear_starts, clear_next, clear_differs, clear_ends}
+-- Each byte is asked whether it is zero.
+use Rattle.std.proofs.Common.{◌≡◌, ◌+◌, ◌-◌, rules, arith}
+use Rattle.std.specs.Prelude.{◌↔◌, IsTrue, All}
+use Rattle.wire.specs.Wire.{part}
+use Rattle.filter.proofs.Bytes.{all_empty}
 use Rattle.filter.proofs.empty_at.Goals as goal
 
-pub loop-clear-init : goal.loop-clear-init
-loop-clear-init c = clear_starts _ _ (omega arith)
-
-pub returns-then-filter-at-ne0 : goal.returns-then-filter-at-ne0
-returns-then-filter-at-ne0 c = clear_differs c.loop-clear.invariant (omega arith) c.if-filter-at-ne0.true
-
-pub loop-clear-preserved : goal.loop-clear-preserved
-loop-clear-preserved c = clear_next c.loop-clear.invariant (omega arith) c.if-filter-at-ne0.false
-
 pub returns : goal.returns
-returns c = clear_ends c.loop-clear.invariant (omega arith)
+returns c =
+    let there : c.args.at + c.args.count - c.args.at ≡ c.args.count = omega arith in
+    let each : IsTrue c.all.result ↔ All (λ b. b ≡ 0) (part c.args.at c.args.count c.args.filter.now) = search rules in
+    all_empty _ _ each
