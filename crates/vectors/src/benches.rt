@@ -207,7 +207,14 @@ fn print_copies(rt: &impl Print, b: &Bench) -> io::Result<()> {
                 second: c.second,
             },
         );
-        println!(rt; "copy {i} {} {} {:016x} {:016x} {}", to.switch, to.number, c.source, c.destination, Fields(c.header))?;
+        println!(rt;
+            "copy {i} {} {} {:016x} {:016x} {}",
+            to.switch,
+            to.number,
+            c.source,
+            c.destination,
+            Fields(c.header)
+        )?;
     }
     Ok(())
 }
@@ -221,8 +228,7 @@ pub(crate) fn print_bench(rt: &impl Print, b: &Bench) -> io::Result<()> {
 }
 
 pub(crate) fn print_counters(rt: &impl Print, c: &Counters) -> io::Result<()> {
-    println!(
-        rt;
+    println!(rt;
         "counters {} {} {} {} {} {} {}",
         c.placed, c.taken, c.cut, c.lost, c.delivered, c.overwritten, c.accepted
     )
@@ -233,8 +239,14 @@ pub(crate) fn print_report(rt: &impl Print, done: Done) -> io::Result<()> {
     match done {
         Done::Stepped(r) => {
             let sent = Sent(r.verdict);
-            print!(rt; "report {sent} {} {} 0 {:08x} {}", r.placed, r.lost, r.received, r.overwrote as u8)?;
-            println!(rt; " {} {} {:016x} {:016x}", r.switch, r.port, r.source, r.destination)
+            print!(rt;
+                "report {sent} {} {} 0 {:08x} {}",
+                r.placed, r.lost, r.received, r.overwrote as u8
+            )?;
+            println!(rt;
+                " {} {} {:016x} {:016x}",
+                r.switch, r.port, r.source, r.destination
+            )
         }
         Done::Linked(cut) => println!(rt; "report K 0000 0 0 0 0 0 0 {cut} 00000000 0"),
     }

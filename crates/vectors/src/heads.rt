@@ -4,8 +4,7 @@ use crate::print::{self, Fields};
 use crate::token::{Bytes, FILTER, FRAME, Filter, Output, Token, Tokens};
 use head::Switch;
 use rules::{Setup, Verdict, letter_of, sent_by};
-use std::fmt;
-use std::io;
+use std::{fmt, io};
 use table::Table;
 
 #[derive(Clone, Copy)]
@@ -90,7 +89,10 @@ fn print_table(rt: &impl Print, t: &Table) -> io::Result<()> {
 
 pub(crate) fn print_head(rt: &impl Print, switch: &Switch) -> io::Result<()> {
     let s = switch.setup;
-    println!(rt; "head {} {:04x} {:04x} {} {:08x} {}", s.ports, s.live, s.host, s.limit, s.salt, switch.nonce)?;
+    println!(rt;
+        "head {} {:04x} {:04x} {} {:08x} {}",
+        s.ports, s.live, s.host, s.limit, s.salt, switch.nonce
+    )?;
     print_table(rt, &switch.table)
 }
 
@@ -106,7 +108,12 @@ impl Call for Step {
         let Filter(mut filter) = self.filter;
         let mut out = self.output.bytes();
         match switch.step(filter.all_mut(), self.port, self.frame.all(), out.all_mut()) {
-            Ok(r) => println!(rt; "step {} {} {}", Sent(r.verdict), r.full as u8, r.overwrote as u8)?,
+            Ok(r) => println!(rt;
+                "step {} {} {}",
+                Sent(r.verdict),
+                r.full as u8,
+                r.overwrote as u8
+            )?,
             Err(why) => print::refused(rt, why)?,
         }
         print_head(rt, &switch)?;

@@ -2,8 +2,7 @@
 use crate::token::Output;
 use frame::Header;
 use refusal::Refusal;
-use std::fmt;
-use std::io;
+use std::{fmt, io};
 
 const PIECE: usize = 10;
 
@@ -36,7 +35,12 @@ pub(crate) fn refused(rt: &impl Print, why: Refusal) -> io::Result<()> {
 }
 
 // A line for each piece that isn't as before.
-pub(crate) fn differing(rt: &impl Print, name: &str, before: &[u8], after: &[u8]) -> io::Result<()> {
+pub(crate) fn differing(
+    rt: &impl Print,
+    name: &str,
+    before: &[u8],
+    after: &[u8],
+) -> io::Result<()> {
     let pieces = before.chunks(PIECE).zip(after.chunks(PIECE));
     for (i, (old, new)) in pieces.enumerate() {
         if old != new {

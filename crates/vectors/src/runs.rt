@@ -1,9 +1,8 @@
 // A whole run: a description, and event after event on its fresh bench, each with its line and its
 // report.
-use crate::Call;
 use crate::benches::{print_bench, print_counters, print_report};
-use crate::print;
 use crate::token::{Input, Token, Tokens};
+use crate::{Call, print};
 use bench::Bench;
 use counters::Counters;
 use event::{Event, letter_of, read_event, size_of};

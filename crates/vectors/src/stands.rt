@@ -1,7 +1,6 @@
 // A stand's network: read, described, printed.
-use crate::Call;
-use crate::print;
 use crate::token::{Input, Output, Token, Tokens};
+use crate::{Call, print};
 use network::{Host, Link, Network, Port, Switch};
 use std::io;
 
@@ -91,14 +90,20 @@ fn print_switches(rt: &impl Print, n: &Network) -> io::Result<()> {
 
 fn print_hosts(rt: &impl Print, n: &Network) -> io::Result<()> {
     for (i, h) in n.hosts.iter().take(n.nhosts as usize).enumerate() {
-        println!(rt; "host {i} {} {} {:016x}", h.port.switch, h.port.number, h.address)?;
+        println!(rt;
+            "host {i} {} {} {:016x}",
+            h.port.switch, h.port.number, h.address
+        )?;
     }
     Ok(())
 }
 
 fn print_links(rt: &impl Print, n: &Network) -> io::Result<()> {
     for (i, l) in n.links.iter().take(n.nlinks as usize).enumerate() {
-        println!(rt; "link {i} {} {} {} {}", l.first.switch, l.first.number, l.second.switch, l.second.number)?;
+        println!(rt;
+            "link {i} {} {} {} {}",
+            l.first.switch, l.first.number, l.second.switch, l.second.number
+        )?;
     }
     Ok(())
 }

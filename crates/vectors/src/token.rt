@@ -61,7 +61,11 @@ impl<'a> Tokens<'a> {
     // What all that is left of the line says.
     pub(crate) fn whole<T: Token + Drop>(mut self) -> Option<T> {
         let read = self.read()?;
-        if self.rest.is_empty() { Some(read) } else { None }
+        if self.rest.is_empty() {
+            Some(read)
+        } else {
+            None
+        }
     }
 
     // A byte, not a token of its own.
@@ -94,7 +98,11 @@ impl<'a> Tokens<'a> {
         ensures { IfSome result (λ n. n ≤ most) }
     {
         let n = self.number()?;
-        if n <= most as u64 { Some(n as usize) } else { None }
+        if n <= most as u64 {
+            Some(n as usize)
+        } else {
+            None
+        }
     }
 
     // An index of so many places.
@@ -102,7 +110,11 @@ impl<'a> Tokens<'a> {
         ensures { IfSome result (λ n. n < places) }
     {
         let n = self.number()?;
-        if n < places as u64 { Some(n as usize) } else { None }
+        if n < places as u64 {
+            Some(n as usize)
+        } else {
+            None
+        }
     }
 
     // This number and no other.
