@@ -2,6 +2,7 @@
 use Prim.Native.Nat.{ℕ, ◌<◌, ◌≤◌}
 use mathlib.Core.Path.{◌≡◌, refl, ◌∙◌}
 use native.Mathlib.Omega.{arith}
+use Rattle.std.specs.Prelude.{Ok}
 use lib.ListN.{get_or, length, length-set, length-take, set}
 use Rattle.cabling.specs.Cabling.{plugs_of, setup_of}
 use Rattle.seat.specs.Seat.{with_setup}
@@ -29,7 +30,7 @@ module _ (b : Bench) (e : Event) where
   event_network = refl
 
   -- the answer is the turn's
-  pub event_answer : (event_of b e).answer ≡ (turn_in b e).answer
+  pub event_answer : (event_of b e).answer ≡ Ok (turn_in b e).done
   unfolding event_of
   event_answer = refl
 

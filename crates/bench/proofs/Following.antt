@@ -11,7 +11,6 @@ use lib.ListN.{get_or, length, length-set, set}
 use lib.Seq.{ext_get_or, get_or-set_other, get_or-set_same}
 use borrow.Author.Tests.{le-ltb, lt-ltb}
 use Rattle.network.specs.declared.Network.{Network}
-use Rattle.network.specs.Network.{most_switches}
 use Rattle.rules.specs.declared.Setup.{Setup}
 use Rattle.cabling.specs.Cabling.{plugs_of, setup_of}
 use Rattle.seat.specs.declared.Seat.{Seat}
@@ -75,38 +74,33 @@ follow_again n up next ss k s = ext_get_or no_seat _ _ long (λ j h. each j (ome
 
 -- a loop over the heads: those before k followed
 pub record Followed (n : Network) (up : List Bool) (before after : List Seat) (k : ℕ) : Type 0 where
-  pub whole : length before ≡ most_switches
   pub long : length after ≡ length before
   pub done : (j : ℕ) → j < k → get_or after j no_seat ≡ with_setup (setup_of n (plugs_of n) up j) (get_or before j no_seat)
   pub left : (j : ℕ) → k ≤ j → get_or after j no_seat ≡ get_or before j no_seat
-  pub within : k ≤ n.nswitches
 
 module _ {n : Network} {up : List Bool} {before : List Seat} where
-  pub none_followed : length before ≡ most_switches → Followed n up before before 0
-  none_followed whole = record { whole = whole; long = refl; done = λ j h. absurd (omega arith); left = λ j h. refl; within = omega arith }
+  pub none_followed : Followed n up before before 0
+  none_followed = record { long = refl; done = λ j h. absurd (omega arith); left = λ j h. refl }
 
-  pub one_followed : {after : List Seat} {k : ℕ} {s t : Seat} {w : Setup} {ps : List ℕ} → Followed n up before after k → k < n.nswitches → n.nswitches ≤ most_switches → (k < length after → s ≡ get_or after k no_seat)
-      → ps ≡ plugs_of n → w ≡ setup_of n ps up k → t ≡ with_setup w s → Followed n up before (set after k t) (k + 1)
-  one_followed {after} {k} {s} {t} {w} {ps} v h few is p q e =
-      let inside : k < length after = omega (arith, v.long, v.whole) in
+  pub one_followed : {after : List Seat} {k : ℕ} {t : Seat} {w : Setup} {ps : List ℕ} → Followed n up before after k → k < length after
+      → ps ≡ plugs_of n → w ≡ setup_of n ps up k → t ≡ with_setup w (get_or after k no_seat) → Followed n up before (set after k t) (k + 1)
+  one_followed {after} {k} {t} {w} {ps} v inside p q e =
       let setup : w ≡ setup_of n (plugs_of n) up k = q ∙ ap (λ l. setup_of n l up k) p in
-      let old : s ≡ get_or before k no_seat = is inside ∙ v.left k (omega arith) in
+      let old : get_or after k no_seat ≡ get_or before k no_seat = v.left k (omega arith) in
       record {
-        whole = v.whole;
         long = length-set after k t ∙ v.long;
         done = λ j l. by_cases (ℕ_discrete j k)
             (λ d. rw d (get_or-set_same after k t no_seat inside ∙ e ∙ (λ i. with_setup (setup i) (old i))))
             (λ d. get_or-set_other after k j t no_seat d ∙ v.done j (omega arith));
         left = λ j l. get_or-set_other after k j t no_seat (λ d. omega arith) ∙ v.left j (omega arith);
-        within = omega arith;
       }
 
-  pub all_followed : {after : List Seat} {k : ℕ} → Followed n up before after k → n.nswitches ≤ k → after ≡ follow n up 0 before
-  all_followed {after} {k} v h = ext_get_or no_seat after (follow n up 0 before) (v.long ∙ sym (follow_length n up 0 before)) each
+  pub all_followed : {after : List Seat} → Followed n up before after n.nswitches → after ≡ follow n up 0 before
+  all_followed {after} v = ext_get_or no_seat after (follow n up 0 before) (v.long ∙ sym (follow_length n up 0 before)) each
     where
       each : (j : ℕ) → j < length after → get_or after j no_seat ≡ get_or (follow n up 0 before) j no_seat
       each j l =
           let there : j < length before = omega (arith, v.long) in
           by_cases (dec_lt j n.nswitches)
-          (λ d. v.done j (omega (arith, v.within)) ∙ sym (follow_at n up before j there d))
-          (λ d. v.left j (omega (arith, v.within)) ∙ sym (each_followed n up before j no_seat there ∙ rw (le-ltb j n.nswitches (omega arith))))
+          (λ d. v.done j d ∙ sym (follow_at n up before j there d))
+          (λ d. v.left j (omega arith) ∙ sym (each_followed n up before j no_seat there ∙ rw (le-ltb j n.nswitches (omega arith))))

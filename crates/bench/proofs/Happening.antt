@@ -11,12 +11,13 @@ use Rattle.flight.specs.declared.Copy.{Copy}
 use Rattle.flight.specs.Flight.{Worded, copies_in, most, no_copy}
 use Rattle.flight.proofs.Laws.{copies_length}
 use Rattle.event.specs.declared.Event.{Event}
-use Rattle.turn.specs.declared.Answer.{Answer}
+use Rattle.std.specs.Prelude.{Ok}
+use Rattle.turn.specs.declared.Done.{Done}
 use Rattle.turn.specs.Turn.{CanTurn, Kept, Turn, Turns, head_of, own_refusal, turn_of}
 use Rattle.turn.proofs.Laws.{can_turn, head_there}
 use Rattle.bench.specs.declared.Bench.{Bench}
 use Rattle.bench.specs.Bench.{bench_of, in_flight, no_seat, seat_at}
-use Rattle.bench.specs.Events.{event_of, follow, turn_in}
+use Rattle.bench.specs.Events.{event_of, follow, happened_as, turn_in}
 use Rattle.bench.specs.Shape.{Accepted}
 use Rattle.bench.proofs.Described.{few_switches}
 
@@ -49,20 +50,20 @@ module _ (b : Bench) (e : Event) where
     pub can_turn_on : CanTurn b.network (copies_in b.flying words) e
     can_turn_on = rw carried (can_turn b.network ok.shape.described b.up (in_flight b) ok.shape.copies e free)
 
-    pub happens : {k m : ℕ} {s after : Seat} {u : List Bool} {words' : List (List ℕ)} {a : Answer} {seats : List Seat} {copies : List Copy}
-        → k ≡ turns → s ≡ get_or b.seats k no_seat → Turns (turn_of b.network b.up s (copies_in b.flying words) e) u after words' m a
+    pub happens : {k m : ℕ} {s after : Seat} {u : List Bool} {words' : List (List ℕ)} {d : Done} {seats : List Seat} {copies : List Copy}
+        → k ≡ turns → s ≡ get_or b.seats k no_seat → Turns (turn_of b.network b.up s (copies_in b.flying words) e) u after words' m d
         → seats ≡ follow b.network u 0 (set b.seats k after) → copies ≡ copies_in m words' ++ replicate (most - m) no_copy
-        → record { bench = bench_of b.network u seats copies m; answer = a } ≡ event_of b e
+        → happened_as (bench_of b.network u seats copies m) (Ok d) ≡ event_of b e
     unfolding event_of turn_in seat_at
-    happens {k} {m} {s} {after} {u} {words'} {a} {seats} {copies} kk ss t sq cq =
+    happens {k} {m} {s} {after} {u} {words'} {d} {seats} {copies} kk ss t sq cq =
         let same : turn_of b.network b.up s (copies_in b.flying words) e ≡ turn_in b e =
         λ i. turn_of b.network b.up ((ss ∙ ap (λ j. get_or b.seats j no_seat) kk) i) (carried i) e in
         let up : u ≡ (turn_in b e).up = t.up ∙ ap (λ (x : Turn). x.up) same in
         let seat : after ≡ (turn_in b e).seat = t.seat ∙ ap (λ (x : Turn). x.seat) same in
         let flying : copies_in m words' ≡ (turn_in b e).flying = t.copies ∙ ap (λ (x : Turn). x.flying) same in
-        let answer : a ≡ (turn_in b e).answer = t.answer ∙ ap (λ (x : Turn). x.answer) same in
+        let done : d ≡ (turn_in b e).done = t.done ∙ ap (λ (x : Turn). x.done) same in
         let many : m ≡ length (turn_in b e).flying = sym (copies_length m words' (omega (arith, t.whole, t.few))) ∙ ap length flying in
         λ i. record {
           bench = bench_of b.network (up i) ((sq ∙ (λ j. follow b.network (up j) 0 (set b.seats (kk j) (seat j)))) i) ((cq ∙ (λ j. flying j ++ replicate (most - many j) no_copy)) i) (many i);
-          answer = answer i;
+          answer = Ok (done i);
         }

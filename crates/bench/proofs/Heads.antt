@@ -1,24 +1,25 @@
 -- The heads of a fresh bench, one by one.
-use Prim.Native.Nat.{ℕ, zero, suc, ◌+◌, ◌<◌, ◌≤◌}
+use Prim.Native.Nat.{ℕ, zero, suc, ◌+◌, ◌-◌, ◌<◌, ◌≤◌}
 use mathlib.Core.Path.{◌≡◌, refl, sym, ap, ◌∙◌}
 use mathlib.Core.Logic.{by_cases}
 use mathlib.Core.Bool.{Bool}
 use mathlib.Core.List.{List, []}
-use native.Mathlib.Decide.{ℕ_discrete}
+use native.Mathlib.Decide.{dec_lt, ℕ_discrete}
 use native.Mathlib.Numerals.{add-one}
 use native.Mathlib.Omega.{arith}
-use lib.ListN.{get_or, length, length-append, replicate, set, get_or-append}
-use lib.Seq.{get_or_at}
+use lib.ListN.{get_or, get_or-append, get_or-replicate, length, length-append, length-replicate, replicate}
+use lib.Seq.{ext_get_or, get_or-append_right, get_or_at}
+use borrow.Author.Tests.{le-ltb, lt-ltb}
 use Rattle.network.specs.declared.Network.{Network}
 use Rattle.network.specs.Network.{most_switches, padded}
 use Rattle.rules.specs.declared.Setup.{Setup}
 use Rattle.cabling.specs.Cabling.{plugs_of, setup_of}
 use Rattle.seat.specs.declared.Seat.{Seat}
 use Rattle.seat.specs.Seat.{fresh_seat}
-use Rattle.flight.specs.declared.Copy.{Copy}
-use Rattle.flight.specs.Flight.{most, no_copy}
-use Rattle.bench.specs.Bench.{all_up, bench_of, fresh_bench, fresh_heads, no_seat}
-use Rattle.bench.proofs.Lists.{padded_next}
+use Rattle.bench.specs.Bench.{fresh_heads, no_seat}
+use Rattle.bench.specs.Events.{follow}
+use Rattle.bench.proofs.Following.{each_followed, follow_length, followed}
+use Rattle.bench.proofs.Lists.{padded_length}
 
 module _ (n : Network) (up : List Bool) where
   pub heads_length : (k : ℕ) → length (fresh_heads n up k) ≡ k
@@ -34,33 +35,23 @@ module _ (n : Network) (up : List Bool) where
       by_cases (ℕ_discrete k m) (λ e. rw e (get_or_at (fresh_heads n up m) _ [] d m long))
       (λ e. get_or-append (fresh_heads n up m) _ d k (omega arith) ∙ heads_at m k (omega arith) d)
 
--- a loop that seats them: the first k stand
-pub record Seats (n : Network) (up : List Bool) (seats : List Seat) (k : ℕ) : Type 0 where
-  pub so_far : seats ≡ padded no_seat most_switches (fresh_heads n up k)
-  pub within : k ≤ n.nswitches
+  -- where no head is seated yet, all heads that follow are the first heads, and behind them there is none
+  pub none_follow : n.nswitches ≤ most_switches → follow n up 0 (replicate most_switches no_seat) ≡ padded no_seat most_switches (fresh_heads n up n.nswitches)
+  none_follow few = ext_get_or no_seat _ _ (long ∙ sym (padded_length no_seat most_switches heads (omega (arith, seated)))) (λ j h. each j (omega (arith, long)))
+    where
+      none heads : List Seat
+      none = replicate most_switches no_seat
+      heads = fresh_heads n up n.nswitches
 
-module _ {n : Network} {up : List Bool} where
-  pub none_seated : {s : Seat} → s ≡ no_seat → Seats n up (replicate most_switches s) 0
-  unfolding fresh_heads
-  none_seated e = record { so_far = ap (λ s. replicate most_switches s) e; within = omega arith }
+      seated : length heads ≡ n.nswitches
+      seated = heads_length n.nswitches
 
-  pub one_seated : {seats : List Seat} {k : ℕ} {s : Seat} {w : Setup} {ps : List ℕ} → Seats n up seats k → k < n.nswitches → n.nswitches ≤ most_switches
-      → ps ≡ plugs_of n → w ≡ setup_of n ps up k → s ≡ fresh_seat w → Seats n up (set seats k s) (k + 1)
-  unfolding fresh_heads
-  one_seated {seats} {k} {s} v h few p w e = record {
-    so_far =
-        let new = fresh_seat (setup_of n (plugs_of n) up k) in
-        rw (e, w, p, v.so_far, add-one)
-        (ap (λ i. set (padded no_seat most_switches (fresh_heads n up k)) i new) (sym (heads_length n up k))
-        ∙ padded_next no_seat most_switches (fresh_heads n up k) new (omega (arith, heads_length n up k)));
-    within = omega arith;
-  }
+      long : length (follow n up 0 none) ≡ most_switches
+      long = follow_length n up 0 none ∙ length-replicate most_switches no_seat
 
-  pub all_seated : {seats : List Seat} {k : ℕ} → Seats n up seats k → n.nswitches ≤ k → seats ≡ padded no_seat most_switches (fresh_heads n up n.nswitches)
-  all_seated {k = k} v h = let e : k ≡ n.nswitches = omega (arith, v.within) in v.so_far ∙ ap (λ i. padded no_seat most_switches (fresh_heads n up i)) e
-
--- the bench of them
-pub seated_fresh : {n : Network} {seats : List Seat} {c : Copy} → seats ≡ padded no_seat most_switches (fresh_heads n all_up n.nswitches) → c ≡ no_copy
-    → bench_of n all_up seats (replicate most c) 0 ≡ fresh_bench n
-unfolding fresh_bench
-seated_fresh {n} e c = λ i. bench_of n all_up (e i) (replicate most (c i)) 0
+      each : (j : ℕ) → j < most_switches → get_or (follow n up 0 none) j no_seat ≡ get_or (padded no_seat most_switches heads) j no_seat
+      each j h =
+          each_followed n up none j no_seat (omega (arith, length-replicate most_switches no_seat)) ∙ ap (λ s. followed n up j s) (get_or-replicate most_switches j no_seat no_seat h)
+          ∙ by_cases (dec_lt j n.nswitches)
+          (λ d. rw (lt-ltb j n.nswitches d) (sym (get_or-append heads _ no_seat j (omega (arith, seated)) ∙ heads_at n.nswitches j d no_seat)))
+          (λ d. rw (le-ltb j n.nswitches (omega arith)) (sym (get_or-append_right heads _ j no_seat (omega (arith, seated)) ∙ get_or-replicate (most_switches - length heads) (j - length heads) no_seat no_seat (omega (arith, seated)))))

@@ -16,7 +16,8 @@ use Rattle.flight.specs.Flight.{most, no_copy}
 use Rattle.flight.proofs.Laws.{all_none}
 use Rattle.event.specs.declared.Event.{Event}
 use Rattle.turn.specs.declared.Report.{Report}
-use Rattle.turn.specs.declared.Answer.TheVariants.{Stepped}
+use Rattle.std.specs.Prelude.{Ok}
+use Rattle.turn.specs.declared.Done.TheVariants.{Stepped}
 use Rattle.turn.specs.Fits.{SeatFits}
 use Rattle.turn.specs.Turn.{Answers, Small, come, gone, head_of}
 use Rattle.turn.proofs.Laws.{turn_accepts, turn_count, turn_small}
@@ -106,6 +107,6 @@ module _ (b : Bench) (e : Event) where
   event_accepts = turn_accepts b.network b.up (seat_at b (head_of b.network (in_flight b) e)) (in_flight b) e
 
   -- a step's report is small
-  pub event_small : (r : Report) → (event_of b e).answer ≡ Stepped r → Small r
+  pub event_small : (r : Report) → (event_of b e).answer ≡ Ok (Stepped r) → Small r
   unfolding event_of turn_in
   event_small r q = turn_small b.network b.up (seat_at b (head_of b.network (in_flight b) e)) (in_flight b) e r q

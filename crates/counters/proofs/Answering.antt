@@ -4,13 +4,13 @@ use mathlib.Core.Path.{◌≡◌, refl, ap}
 use native.Mathlib.Omega.{arith}
 use lib.ListN.{length}
 use lib.Seq.{length-take-le}
+use Rattle.std.specs.Prelude.{Ok, Err}
 use Rattle.frame.proofs.Laws.{bit_small}
 use Rattle.event.specs.declared.Event.{Event}
 use Rattle.event.specs.declared.Event.TheVariants.{Present, Take, Link}
-use Rattle.turn.specs.declared.Answer.{Answer}
-use Rattle.turn.specs.declared.Answer.TheVariants.{Refused, Stepped, Linked}
+use Rattle.turn.specs.declared.Done.TheVariants.{Stepped, Linked}
 use Rattle.turn.specs.declared.Report.{Report}
-use Rattle.turn.specs.Turn.{Answers, Small, come, gone}
+use Rattle.turn.specs.Turn.{Answer, Answers, Small, come, gone}
 use Rattle.bench.specs.declared.Bench.{Bench}
 use Rattle.bench.specs.Bench.{in_flight}
 use Rattle.bench.specs.Events.{event_of}
@@ -24,15 +24,15 @@ use Rattle.counters.specs.declared.Counters.{Counters}
 -- an event counts once at most
 pub at_most_one : (c : Counters) (e : Event) (a : Answer) → (counted c e a).accepted ≤ c.accepted + 1
 unfolding adds plus
-at_most_one c e (Refused n) = omega arith
-at_most_one c e (Stepped r) = omega arith
-at_most_one c e (Linked cut) = omega arith
+at_most_one c e (Err n) = omega arith
+at_most_one c e (Ok (Stepped r)) = omega arith
+at_most_one c e (Ok (Linked cut)) = omega arith
 
 -- and overwrites once at most
 pub one_overwritten : (a : Answer) → overwritten_by a ≤ 1
-one_overwritten (Refused n) = omega arith
-one_overwritten (Stepped r) = bit_small r.overwrote
-one_overwritten (Linked cut) = omega arith
+one_overwritten (Err n) = omega arith
+one_overwritten (Ok (Stepped r)) = bit_small r.overwrote
+one_overwritten (Ok (Linked cut)) = omega arith
 
 -- ---- An accepted event's
 
@@ -49,15 +49,15 @@ gone_as (Take place) a (r, q) = rw q
 gone_as (Link s) a (cut, q) = rw q (omega arith)
 
 come_as : (a : Answer) → come a ≡ placed_by a
-come_as (Refused n) = refl
-come_as (Stepped r) = refl
-come_as (Linked cut) = refl
+come_as (Err n) = refl
+come_as (Ok (Stepped r)) = refl
+come_as (Ok (Linked cut)) = refl
 
 -- a step sends to at most 8 ports
-few : (a : Answer) → ((r : Report) → a ≡ Stepped r → Small r) → (placed_by a + lost_by a ≤ 8) × (delivered_by a ≤ 8)
-few (Refused n) small = (omega arith, omega arith)
-few (Stepped r) small = ((small r refl).copies, (small r refl).hosts)
-few (Linked cut) small = (omega arith, omega arith)
+few : (a : Answer) → ((r : Report) → a ≡ Ok (Stepped r) → Small r) → (placed_by a + lost_by a ≤ 8) × (delivered_by a ≤ 8)
+few (Err n) small = (omega arith, omega arith)
+few (Ok (Stepped r)) small = ((small r refl).copies, (small r refl).hosts)
+few (Ok (Linked cut)) small = (omega arith, omega arith)
 
 -- the list of a bench in shape is as long as its count says
 pub in_flight_long : {b : Bench} → Sized b → InShape b → length (in_flight b) ≡ b.flying

@@ -3,7 +3,7 @@ use mathlib.Core.Path.{◌≡◌}
 use Rattle.refusal.specs.OneOutcome.{OneOutcome}
 use Rattle.refusal.proofs.Outcomes.{one_outcome, beside, plain}
 use Rattle.event.specs.declared.Event.{Event}
-use Rattle.turn.specs.declared.Answer.{Answer}
+use Rattle.turn.specs.Turn.{Answer}
 use Rattle.turn.proofs.Laws.{told_apart}
 use Rattle.bench.specs.declared.Bench.{Bench}
 use Rattle.counters.specs.Counters.{no_counts}

@@ -2,13 +2,13 @@
 use Prim.Native.Nat.{ℕ, zero, suc}
 use mathlib.Core.Path.{◌≡◌, refl, sym, ap, ◌∙◌}
 use mathlib.Core.List.{List, [], ◌∷◌}
+use Rattle.std.specs.Prelude.{Err}
 use Rattle.refusal.specs.Refusal.{leaves}
 use Rattle.event.specs.declared.Event.{Event}
-use Rattle.turn.specs.declared.Answer.{Answer}
-use Rattle.turn.specs.declared.Answer.TheVariants.{Refused}
+use Rattle.turn.specs.Turn.{Answer}
 use Rattle.bench.specs.Events.{event_of}
 use Rattle.counters.specs.Counters.{adds, counted, plus}
-use Rattle.counters.specs.Event.{event_refusal, happens_of}
+use Rattle.counters.specs.Event.{event_refusal, happens_of, refusal_numbered}
 use Rattle.counters.specs.History.{State, after, counters_by, happens_at, history_of, run_of, total}
 use Rattle.counters.specs.declared.Counters.{Counters}
 use Rattle.counters.proofs.Adding.{plus_assoc, plus_none}
@@ -26,7 +26,7 @@ after_cases P s e old new = by_number (event_refusal s.bench s.counters e) refl
     by_number (suc n) z = old
 
 -- an event adds what its answer says, a refused one nothing
-added : (n : ℕ) (c : Counters) (e : Event) (a : Answer) → leaves n c (counted c e a) ≡ plus c (adds e (leaves n (Refused n) a))
+added : (n : ℕ) (c : Counters) (e : Event) (a : Answer) → leaves n c (counted c e a) ≡ plus c (adds e (leaves n (Err (refusal_numbered n)) a))
 unfolding adds
 added zero c e a = refl
 added (suc n) c e a = sym (plus_none c)

@@ -9,8 +9,7 @@ use borrow.Author.Tests.{leb-true, leb-false}
 use Rattle.network.specs.declared.Network.{Network}
 use Rattle.event.specs.declared.Event.{Event}
 use Rattle.event.specs.declared.Event.TheVariants.{Present, Take, Link}
-use Rattle.event.specs.Event.{address_of}
-use Rattle.turn.specs.Turn.{no_copy_at, no_host, no_link, own_refusal, to_zero}
+use Rattle.turn.specs.Turn.{own_refusal}
 use Rattle.bench.specs.Events.{event_of}
 use Rattle.bench.specs.Shape.{Accepted, InShape, Sized}
 use Rattle.bench.proofs.Laws.{event_sized, keeps_shape, tested_both_ways}
@@ -30,25 +29,16 @@ pub record InRun (s : State) : Type 0 where
   pub fit : CountersFit s.bench.flying s.counters
   pub placed : s.counters.placed ≤ 8 * s.counters.accepted
 
+either_not_28 : (t : Bool) {n m : ℕ} → n ≢ 28 → m ≢ 28 → cond t n m ≢ 28
+either_not_28 true p q = p
+either_not_28 false p q = q
+
 -- an event's own refusals are 30 to 33
 own_not_28 : (n : Network) (flying : ℕ) (e : Event) → own_refusal n flying e ≢ 28
 unfolding own_refusal
-own_not_28 n flying (Present e) = two (no_host n.nhosts e.host) (to_zero (address_of e.to))
-  where
-    two : (a b : Bool) → ◌≢◌ {A = ℕ} (cond a 30 (cond b 31 0)) 28
-    two true b z = omega arith
-    two false true z = omega arith
-    two false false z = omega arith
-own_not_28 n flying (Take place) = one (no_copy_at flying place)
-  where
-    one : (a : Bool) → ◌≢◌ {A = ℕ} (cond a 32 0) 28
-    one true z = omega arith
-    one false z = omega arith
-own_not_28 n flying (Link e) = one (no_link n.nlinks e)
-  where
-    one : (a : Bool) → ◌≢◌ {A = ℕ} (cond a 33 0) 28
-    one true z = omega arith
-    one false z = omega arith
+own_not_28 n flying (Present e) = either_not_28 _ (λ z. omega arith) (either_not_28 _ (λ z. omega arith) (λ z. omega arith))
+own_not_28 n flying (Take place) = either_not_28 _ (λ z. omega arith) (λ z. omega arith)
+own_not_28 n flying (Link e) = either_not_28 _ (λ z. omega arith) (λ z. omega arith)
 
 module _ {s : State} (k : InRun s) where
   -- before a million events 34 and 28 are out of the question

@@ -1,10 +1,6 @@
 -- The heads before k have followed, and those from k on are as they were.
 use Rattle.bench.proofs.Following.{Followed}
-use Prim.Native.Nat.{◌-◌}
 use Rattle.bench.proofs.follow.Given as goal
 
 abbrev pub invariant-loop-k : goal.invariant-loop-k
 invariant-loop-k l = Followed l.n l.up l.initial.seats l.seats l.k
-
-abbrev pub decreases-loop-k : goal.decreases-loop-k
-decreases-loop-k l = l.n.nswitches - l.k
