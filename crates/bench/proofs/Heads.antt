@@ -39,8 +39,10 @@ module _ (n : Network) (up : List Bool) where
   pub none_follow : n.nswitches ≤ most_switches → follow n up 0 (replicate most_switches no_seat) ≡ padded no_seat most_switches (fresh_heads n up n.nswitches)
   none_follow few = ext_get_or no_seat _ _ (long ∙ sym (padded_length no_seat most_switches heads (omega (arith, seated)))) (λ j h. each j (omega (arith, long)))
     where
-      none heads : List Seat
+      none : List Seat
       none = replicate most_switches no_seat
+
+      heads : List Seat
       heads = fresh_heads n up n.nswitches
 
       seated : length heads ≡ n.nswitches

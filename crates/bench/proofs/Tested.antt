@@ -11,7 +11,12 @@ use lib.Dec.{eqb, leb, ltb}
 use lib.ListN.{get_or, length, take}
 use lib.Seq.{get_or-take, length-take-le}
 use borrow.Author.Tests.{eq-eqb, eqb-true, eqb-false, ne_eqb, lt-ltb, ltb-true, not-true, le-leb, leb-true}
+use Rattle.core.specs.Result.{is_ok}
+use Rattle.std.specs.Prelude.{Result, Ok, Err}
 use Rattle.refusal.specs.Refusal.{first, outside}
+use Rattle.refusal.specs.Number.{number_of, refused_as}
+use Rattle.refusal.specs.declared.Refusal.{Refusal}
+use Rattle.refusal.proofs.Told.{refused_apart}
 use Rattle.refusal.proofs.Laws.{inside, not_outside}
 use Rattle.wire.specs.Address.{is_source}
 use Rattle.wire.specs.Below.{all_below}
@@ -39,6 +44,17 @@ halves a b = (and-eq-true_iff a b).0
 
 join : (a b : Bool) → a ≡ true → b ≡ true → (a && b) ≡ true
 join a b p q = (and-eq-true_iff a b).1 (p, q)
+
+-- ---- An answer
+
+-- a refusal has a number
+pub some : (r : Refusal) → number_of r ≡ 0 → ⊥
+some r e = let q : ◌≡◌ {A = Result Bool Refusal} (Ok true) (Err r) = refused_apart r (Ok true) (sym e) in cc
+
+-- an answer is none where its number is 0
+pub is_ok_as : {A : Type 0} (a : Result A Refusal) → is_ok a ≡ eqb (refused_as a) 0
+is_ok_as (Ok x) = refl
+is_ok_as (Err r) = sym (ne_eqb (number_of r) 0 (some r))
 
 -- ---- A head
 
@@ -80,51 +96,36 @@ module _ (n : Network) (up : List Bool) (k : ℕ) (s : Seat) where
       record { setup = same_setup_lem _ _ a; formed = (refusal_formed s sized).0 (eqb-true asked 0 b) }
 
   -- the code asks for the setup, and where it fits for refusal 1
-  module _ {ps : List ℕ} {w : Setup} {same : Bool} (p : ps ≡ plugs_of n) (q : w ≡ setup_of n ps up k) (e : same ≡ same_setup s.switch.setup w) where
-    both_asked : seat_fits n up k s ≡ (same && eqb (first (switch_causes s.switch s.cells)) 0)
+  module _ {ps : List ℕ} {w : Setup} (p : ps ≡ plugs_of n) (q : w ≡ setup_of n ps up k) where
+    setup_is : w ≡ setup_of n (plugs_of n) up k
+    setup_is = q ∙ ap (λ l. setup_of n l up k) p
+
+    pub setup_fits : {r : Bool} {a : Result (Unit {0}) Refusal} → same_setup s.switch.setup w ≡ true → r ≡ is_ok a → refused_as a ≡ first (switch_causes s.switch s.cells) → r ≡ seat_fits n up k s
     unfolding seat_fits
-    both_asked = rw (e, q, p)
+    setup_fits {a = a} same test e = test ∙ is_ok_as a ∙ rw (e, ← setup_is, same)
 
-    pub setup_fits : {r : Bool} → same ≡ true → r ≡ eqb (first (switch_causes s.switch s.cells)) 0 → (r ≡ true → WellFormed s.switch s.cells)
-        → (r ≡ seat_fits n up k s) × (r ≡ true → SeatFits n up k s)
-    setup_fits a test formed = (
-      test ∙ sym (both_asked ∙ rw a),
-      λ t. record { setup = same_setup_lem _ w (sym e ∙ a) ∙ q ∙ ap (λ l. setup_of n l up k) p; formed = formed t },
-    )
-
-    pub setup_differs : same ≡ false → (false ≡ seat_fits n up k s) × (false ≡ true → SeatFits n up k s)
-    setup_differs a = (sym (both_asked ∙ rw a), λ t. absurd (true≢false (sym t)))
+    pub setup_differs : same_setup s.switch.setup w ≡ false → false ≡ seat_fits n up k s
+    unfolding seat_fits
+    setup_differs other = rw (← setup_is, other)
 
 -- ---- Those from 0 on
 
--- a loop over them: whether all so far pass the test, and what that means of each
-pub record Passing (test : ℕ → Bool) (P : ℕ → Type 0) (k : ℕ) (fit : Bool) : Type 0 where
-  pub so_far : fit ≡ all_below test k
-  pub passed : fit ≡ true → (j : ℕ) → j < k → P j
+-- a loop over them, which stops at the first that fails: all so far pass the test, and what that means of each
+pub record Passing (test : ℕ → Bool) (P : ℕ → Type 0) (k : ℕ) : Type 0 where
+  pub so_far : all_below test k ≡ true
+  pub passed : (j : ℕ) → j < k → P j
 
 module _ {test : ℕ → Bool} {P : ℕ → Type 0} where
-  pub passing_starts : Passing test P 0 true
+  pub passing_starts : Passing test P 0
   unfolding all_below
-  passing_starts = record { so_far = refl; passed = λ e j h. absurd (omega arith) }
+  passing_starts = record { so_far = refl; passed = λ j h. absurd (omega arith) }
 
-  pub passing_next : {k : ℕ} {fit one next : Bool} → Passing test P k fit → one ≡ test k → (one ≡ true → P k) → next ≡ (fit && one) → Passing test P (k + 1) next
+  pub passing_next : {k : ℕ} → Passing test P k → test k ≡ true → P k → Passing test P (k + 1)
   unfolding all_below
-  passing_next {k} {fit} {one} v e means q = record {
-    so_far = q ∙ rw (v.so_far, e, add-one);
-    passed = λ t j h.
-        let (a, b) = halves fit one (sym q ∙ t) in
-        by_cases (ℕ_discrete j k) (λ d. rw d (means b)) (λ d. v.passed a j (omega arith));
+  passing_next {k} v e means = record {
+    so_far = rw (add-one, v.so_far, e);
+    passed = λ j h. by_cases (ℕ_discrete j k) (λ d. rw d means) (λ d. v.passed j (omega arith));
   }
-
-  pub passing_ends : {k m : ℕ} {fit : Bool} → Passing test P k fit → k ≤ m → m ≤ k → (fit ≡ all_below test m) × (fit ≡ true → (j : ℕ) → j < m → P j)
-  passing_ends {k} {m} v a b = let e : k ≡ m = omega arith in (v.so_far ∙ ap (λ i. all_below test i) e, λ t j h. v.passed t j (omega arith))
-
--- the heads one by one
-pub seat_next : (n : Network) (up : List Bool) (seats : List Seat) {k : ℕ} {fit one next : Bool} {s : Seat}
-    → Passing (λ j. seat_fits n up j (get_or seats j no_seat)) (λ j. SeatFits n up j (get_or seats j no_seat)) k fit → s ≡ get_or seats k no_seat
-    → one ≡ seat_fits n up k s → (one ≡ true → SeatFits n up k s) → next ≡ (fit && one)
-    → Passing (λ j. seat_fits n up j (get_or seats j no_seat)) (λ j. SeatFits n up j (get_or seats j no_seat)) (k + 1) next
-seat_next n up seats {k} v is e means q = passing_next v (e ∙ ap (λ t. seat_fits n up k t) is) (λ t. rw (← is) (means t)) q
 
 -- ---- A copy
 
@@ -218,12 +219,3 @@ module _ (b : Bench) (sized : Sized b) where
     le-leb b.flying most v.few,
     (copies_tested b.network b.up b.copies b.flying (omega (arith, sized.copies, v.few))).1 v.copies,
   )
-
--- what the code answers: the test, and what it has then found
-pub not_in_shape : {b : Bench} → in_shape b ≡ false → (false ≡ in_shape b) × (false ≡ true → InShape b)
-not_in_shape e = (sym e, λ t. absurd (true≢false (sym t)))
-
-pub all_in_shape : {b : Bench} {r : Bool} → Sized b
-    → ((k : ℕ) → k < b.network.nswitches → SeatFits b.network b.up k (get_or b.seats k no_seat))
-    → r ≡ in_shape b → (r ≡ in_shape b) × (r ≡ true → InShape b)
-all_in_shape {b} sized fit e = (e, λ t. found_in_shape b sized (λ _. fit) (sym e ∙ t))

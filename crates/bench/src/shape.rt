@@ -13,6 +13,7 @@ use refusal::is_outside;
 use seat::Seat;
 
 // A head's setup follows from description and link states, and refusal 1 doesn't name it.
+#[tactic(auto, unfolding(crate::specs::Shape::seat_fits))]
 fn seat_fits(network: &Network, plugs: &[u8], up: &[bool], switch: u8, seat: &Seat) -> bool
     requires { plugs.now ≡ plugs_of network.now }
     ensures test { result ≡ seat_fits network.now up.now switch seat.now }
@@ -37,6 +38,7 @@ pub fn seats_fit(network: &Network, up: &[bool], seats: &[Seat]) -> bool
 }
 
 // A link that there is, and that is up.
+#[tactic(auto, unfolding(crate::specs::Shape::on_live_link))]
 fn is_on_live_link(links: u8, up: &[bool], link: u8) -> bool
     ensures { result ≡ on_live_link links up.now link }
 {
@@ -44,6 +46,7 @@ fn is_on_live_link(links: u8, up: &[bool], link: u8) -> bool
 }
 
 // A source that is neither zero nor group, and a destination that isn't zero.
+#[tactic(auto, unfolding(crate::specs::Shape::has_addresses))]
 fn has_addresses(source: u64, destination: u64) -> bool
     ensures { result ≡ has_addresses source destination }
 {
@@ -51,6 +54,7 @@ fn has_addresses(source: u64, destination: u64) -> bool
 }
 
 // A copy may be in flight.
+#[tactic(auto, unfolding(crate::specs::Shape::copy_fits))]
 fn copy_fits(links: u8, up: &[bool], c: &Copy) -> bool
     ensures { result ≡ copy_fits links up.now c.now }
 {
