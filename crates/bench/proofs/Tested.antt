@@ -2,7 +2,7 @@
 use Prim.Native.Nat.{ℕ, zero, ◌+◌, ◌^◌, ◌<◌, ◌≤◌}
 use mathlib.Core.Path.{◌≡◌, refl, sym, ap, ◌∙◌}
 use mathlib.Core.Logic.{◌↔◌, by_cases}
-use mathlib.Core.Bool.{Bool, true, false, not, ◌&&◌, and-eq-true_iff, true≢false}
+use mathlib.Core.Bool.{Bool, true, false, not, ◌&&◌, and_assoc, and-eq-true_iff, true≢false}
 use mathlib.Core.List.{List}
 use native.Mathlib.Decide.{ℕ_discrete}
 use native.Mathlib.Numerals.{add-one}
@@ -58,6 +58,18 @@ is_ok_as (Err r) = sym (ne_eqb (number_of r) 0 (some r))
 
 -- ---- A head
 
+-- the fields of two setups are compared from the first on
+abbrev pub same_in_turn : Setup → Setup → Bool
+same_in_turn a b = eqb a.ports b.ports && (eqb a.live b.live && (eqb a.host b.host && (eqb a.limit b.limit && eqb a.salt b.salt)))
+
+in_turn_same : (a b : Setup) → same_in_turn a b ≡ same_setup a b
+in_turn_same a b = five (eqb a.ports b.ports) (eqb a.live b.live) _ _ _
+  where
+    five : (p l h m s : Bool) → (p && (l && (h && (m && s)))) ≡ (p && l && h && m && s)
+    five true true h m s = sym (and_assoc h m s)
+    five true false h m s = refl
+    five false l h m s = refl
+
 pub same_setup_lem : (a b : Setup) → same_setup a b ≡ true → a ≡ b
 same_setup_lem a b e =
     let ports = eqb a.ports b.ports in
@@ -100,13 +112,13 @@ module _ (n : Network) (up : List Bool) (k : ℕ) (s : Seat) where
     setup_is : w ≡ setup_of n (plugs_of n) up k
     setup_is = q ∙ ap (λ l. setup_of n l up k) p
 
-    pub setup_fits : {r : Bool} {a : Result (Unit {0}) Refusal} → same_setup s.switch.setup w ≡ true → r ≡ is_ok a → refused_as a ≡ first (switch_causes s.switch s.cells) → r ≡ seat_fits n up k s
+    pub setup_fits : (a : Result (Unit {0}) Refusal) {r : Bool} → same_in_turn s.switch.setup w ≡ true → r ≡ is_ok a → refused_as a ≡ first (switch_causes s.switch s.cells) → r ≡ seat_fits n up k s
     unfolding seat_fits
-    setup_fits {a = a} same test e = test ∙ is_ok_as a ∙ rw (e, ← setup_is, same)
+    setup_fits a same test e = test ∙ is_ok_as a ∙ rw (e, ← setup_is, ← in_turn_same s.switch.setup w, same)
 
-    pub setup_differs : same_setup s.switch.setup w ≡ false → false ≡ seat_fits n up k s
+    pub setup_differs : same_in_turn s.switch.setup w ≡ false → false ≡ seat_fits n up k s
     unfolding seat_fits
-    setup_differs other = rw (← setup_is, other)
+    setup_differs other = rw (← setup_is, ← in_turn_same s.switch.setup w, other)
 
 -- ---- Those from 0 on
 
