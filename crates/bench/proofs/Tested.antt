@@ -20,7 +20,7 @@ use Rattle.refusal.proofs.Told.{refused_apart}
 use Rattle.refusal.proofs.Laws.{inside, not_outside}
 use Rattle.wire.specs.Address.{is_source}
 use Rattle.wire.specs.Below.{all_below}
-use Rattle.wire.proofs.Below.{all_below_lem, each_below}
+use Rattle.wire.proofs.Below.{all_below_lem, each_below, not_below}
 use Rattle.wire.proofs.Laws.{source_iff}
 use Rattle.table.specs.Table as table
 use Rattle.network.specs.declared.Network.{Network}
@@ -116,6 +116,9 @@ module _ (n : Network) (up : List Bool) (k : ℕ) (s : Seat) where
     unfolding seat_fits
     setup_fits a same test e = test ∙ is_ok_as a ∙ rw (e, ← setup_is, ← in_turn_same s.switch.setup w, same)
 
+    pub setup_follows : same_in_turn s.switch.setup w ≡ true → s.switch.setup ≡ setup_of n (plugs_of n) up k
+    setup_follows same = same_setup_lem s.switch.setup w (sym (in_turn_same s.switch.setup w) ∙ same) ∙ setup_is
+
     pub setup_differs : same_in_turn s.switch.setup w ≡ false → false ≡ seat_fits n up k s
     unfolding seat_fits
     setup_differs other = rw (← setup_is, ← in_turn_same s.switch.setup w, other)
@@ -138,6 +141,19 @@ module _ {test : ℕ → Bool} {P : ℕ → Type 0} where
     so_far = rw (add-one, v.so_far, e);
     passed = λ j h. by_cases (ℕ_discrete j k) (λ d. rw d means) (λ d. v.passed j (omega arith));
   }
+
+-- the heads one by one, each as the code reads it
+module _ (n : Network) (up : List Bool) (seats : List Seat) where
+  abbrev fits_at : ℕ → Bool
+  fits_at j = seat_fits n up j (get_or seats j no_seat)
+
+  pub seat_next : {k : ℕ} {s : Seat} → Passing fits_at (λ j. SeatFits n up j (get_or seats j no_seat)) k → s ≡ get_or seats k no_seat
+      → seat_fits n up k s ≡ true → SeatFits n up k s
+      → Passing fits_at (λ j. SeatFits n up j (get_or seats j no_seat)) (k + 1)
+  seat_next {k} v is e means = passing_next v (rw is at e) (rw is at means)
+
+  pub seat_fails : {k : ℕ} {s : Seat} → k < n.nswitches → s ≡ get_or seats k no_seat → false ≡ seat_fits n up k s → false ≡ seats_fit n up seats n.nswitches
+  seat_fails {k} h is e = sym (not_below fits_at n.nswitches k h (sym (rw is at e)))
 
 -- ---- A copy
 

@@ -1,6 +1,7 @@
 // What a bench in shape is asked for, refusal 28: heads and copies in flight, one by one.
-ghost use Rattle.std.specs.Prelude.{true, ◌≡◌, ℕ, ◌<◌, ◌≤◌, get_or, length};
+ghost use Rattle.std.specs.Prelude.{EachIndex, IsTrue, ◌↔◌, true, ◌≡◌, ℕ, ◌<◌, ◌≤◌, get_or, length};
 ghost use Rattle.cabling.specs.Cabling.{plugs_of};
+ghost use Rattle.flight.specs.Flight.{no_copy};
 ghost use Rattle.turn.specs.Fits.{SeatFits};
 ghost use Rattle.bench.specs.Bench.{no_seat};
 ghost use Rattle.bench.specs.Shape.{copies_fit, copy_fits, has_addresses, on_live_link, seat_fits, seats_fit};
@@ -66,7 +67,7 @@ fn copy_fits(links: u8, up: &[bool], c: &Copy) -> bool
 
 // All copies in flight fit.
 pub fn copies_fit(links: u8, up: &[bool], copies: &[Copy]) -> bool
-    ensures { result ≡ copies_fit links up.now copies.now (length copies.now) }
+    ensures { IsTrue result ↔ EachIndex copies.now (λ k. IsTrue (copy_fits links up.now (get_or copies.now k no_copy))) }
 {
     copies.iter().all(|c| copy_fits(links, up, c))
 }
