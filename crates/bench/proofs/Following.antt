@@ -95,12 +95,12 @@ module _ {n : Network} {up : List Bool} {before : List Seat} where
         left = λ j l. get_or-set_other after k j t no_seat (λ d. omega arith) ∙ v.left j (omega arith);
       }
 
-  pub all_followed : {after : List Seat} → Followed n up before after n.nswitches → after ≡ follow n up 0 before
-  all_followed {after} v = ext_get_or no_seat after (follow n up 0 before) (v.long ∙ sym (follow_length n up 0 before)) each
+  pub all_followed : {after : List Seat} {k : ℕ} → Followed n up before after k → k ≤ n.nswitches → n.nswitches ≤ k → after ≡ follow n up 0 before
+  all_followed {after} {k} v within past = ext_get_or no_seat after (follow n up 0 before) (v.long ∙ sym (follow_length n up 0 before)) each
     where
       each : (j : ℕ) → j < length after → get_or after j no_seat ≡ get_or (follow n up 0 before) j no_seat
       each j l =
           let there : j < length before = omega (arith, v.long) in
           by_cases (dec_lt j n.nswitches)
-          (λ d. v.done j d ∙ sym (follow_at n up before j there d))
+          (λ d. v.done j (omega arith) ∙ sym (follow_at n up before j there d))
           (λ d. v.left j (omega arith) ∙ sym (each_followed n up before j no_seat there ∙ rw (le-ltb j n.nswitches (omega arith))))
