@@ -6,6 +6,7 @@ use mathlib.Core.Bool.{Bool, true, false}
 use mathlib.Core.List.{List}
 use native.Mathlib.Decide.{ℕ_discrete}
 use native.Mathlib.Omega.{arith}
+use Rattle.std.specs.Prelude.{Ok}
 use lib.ListN.{get_or, length, set}
 use lib.Seq.{get_or-set_other, get_or-set_same, length-take-le}
 use Rattle.network.specs.declared.Network.{Network}
@@ -258,5 +259,5 @@ module _ (b : Bench) (sized : Sized b) where
               ∙ own_setup (seat_at b k) (ok.shape.seats k h).setup;
           links = up;
           copies = in_flight_after b (Link l) ∙ ap (λ (t : Turn). t.flying) same;
-          cut = ap (λ (t : Turn). t.answer) same;
+          cut = ap (λ (t : Turn). Ok t.done) same;
         }

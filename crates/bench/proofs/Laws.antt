@@ -109,4 +109,4 @@ module _ (b : Bench) (e : Event) where
   -- a step's report is small
   pub event_small : (r : Report) → (event_of b e).answer ≡ Ok (Stepped r) → Small r
   unfolding event_of turn_in
-  event_small r q = turn_small b.network b.up (seat_at b (head_of b.network (in_flight b) e)) (in_flight b) e r q
+  event_small r q = turn_small b.network b.up (seat_at b (head_of b.network (in_flight b) e)) (in_flight b) e r cc

@@ -12,7 +12,7 @@ use lib.ListN.{get_or, length, take}
 use lib.Seq.{get_or-take, length-take-le}
 use borrow.Author.Tests.{eq-eqb, eqb-true, eqb-false, ne_eqb, lt-ltb, ltb-true, not-true, le-leb, leb-true}
 use Rattle.core.specs.Result.{is_ok}
-use Rattle.std.specs.Prelude.{Result, Ok, Err}
+use Rattle.std.specs.Prelude.{EachIndex, IsTrue, Result, Ok, Err}
 use Rattle.refusal.specs.Refusal.{first, outside}
 use Rattle.refusal.specs.Number.{number_of, refused_as}
 use Rattle.refusal.specs.declared.Refusal.{Refusal}
@@ -55,6 +55,10 @@ some r e = let q : ◌≡◌ {A = Result Bool Refusal} (Ok true) (Err r) = refus
 pub is_ok_as : {A : Type 0} (a : Result A Refusal) → is_ok a ≡ eqb (refused_as a) 0
 is_ok_as (Ok x) = refl
 is_ok_as (Err r) = sym (ne_eqb (number_of r) 0 (some r))
+
+-- a call that is answered has the number 0
+pub none_found : {A : Type 0} (a : Result A Refusal) {n : ℕ} {r : Bool} → r ≡ is_ok a → refused_as a ≡ n → r ≡ true → n ≡ 0
+none_found a {n} is e t = eqb-true n 0 (sym (rw (← e) (is ∙ is_ok_as a)) ∙ t)
 
 -- ---- A head
 
@@ -247,3 +251,61 @@ module _ (b : Bench) (sized : Sized b) where
     le-leb b.flying most v.few,
     (copies_tested b.network b.up b.copies b.flying (omega (arith, sized.copies, v.few))).1 v.copies,
   )
+
+-- ---- The code asks one behind the other
+
+-- whether the writer takes the description and its heads fit, with what that means of each head
+pub record Heads (b : Bench) (v : Bool) : Type 0 where
+  pub test : v ≡ (eqb (network_fault b.network) 0 && seats_fit b.network b.up b.seats b.network.nswitches)
+  pub fit : v ≡ true → (k : ℕ) → k < b.network.nswitches → SeatFits b.network b.up k (get_or b.seats k no_seat)
+
+-- a test that is made where the one before holds
+pub asked : {v w one : Bool} → v ≡ true → w ≡ one → w ≡ (v && one)
+asked h e = e ∙ rw h
+
+pub unasked : {v w one : Bool} → v ≡ false → w ≡ v → w ≡ (v && one)
+unasked {v} {w} {one} h e = rw (e, h)
+
+-- two tests that hold together are the same
+same_test : (a b : Bool) → (a ≡ true) ↔ (b ≡ true) → a ≡ b
+same_test true b f = sym (f.0 refl)
+same_test false true f = f.1 refl
+same_test false false f = refl
+
+module _ {b : Bench} where
+  pub heads_asked : {v s : Bool} → network_fault b.network ≡ 0 → v ≡ s → s ≡ seats_fit b.network b.up b.seats b.network.nswitches
+      → (s ≡ true → (k : ℕ) → k < b.network.nswitches → SeatFits b.network b.up k (get_or b.seats k no_seat)) → Heads b v
+  heads_asked fine is e fit = record { test = is ∙ e ∙ rw (eq-eqb (network_fault b.network) 0 fine); fit = λ t. fit (sym is ∙ t) }
+
+  pub heads_unasked : {A : Type 0} (a : Result A Refusal) {v r : Bool} → r ≡ is_ok a → refused_as a ≡ network_fault b.network → r ≡ false → v ≡ r → Heads b v
+  heads_unasked a found e no is = record {
+    test = unasked no is ∙ ap (λ d. d && seats_fit b.network b.up b.seats b.network.nswitches) (found ∙ is_ok_as a ∙ ap (λ n. eqb n 0) e);
+    fit = λ t. absurd (true≢false (sym t ∙ is ∙ no));
+  }
+
+  module _ {v u r : Bool} (sized : Sized b) (heads : Heads b v) (few : u ≡ (v && leb b.flying most)) where
+    asked_last : in_shape b ≡ (u && copies_fit b.network.nlinks b.up b.copies b.flying)
+    unfolding in_shape
+    asked_last = rw (few, heads.test)
+
+    pub shape_unasked : u ≡ false → u ≡ in_shape b
+    shape_unasked no = sym (asked_last ∙ rw no ∙ sym no)
+
+    module _ (yes : u ≡ true) (each : IsTrue r ↔ EachIndex (take b.flying b.copies) (λ k. IsTrue (copy_fits b.network.nlinks b.up (get_or (take b.flying b.copies) k no_copy)))) where
+      both : (v ≡ true) × (leb b.flying most ≡ true)
+      both = halves v (leb b.flying most) (sym few ∙ yes)
+
+      short : b.flying ≤ length b.copies
+      short = omega (arith, leb-true b.flying most both.1, sized.copies)
+
+      last : r ≡ copies_fit b.network.nlinks b.up b.copies b.flying
+      last = same_test _ _ (
+        λ t. all_below_lem _ b.flying (λ k h. rw get_or-take at (each.0 t k (omega (arith, length-take-le b.flying b.copies short)))),
+        λ t. each.1 (λ k h. rw get_or-take (each_below _ b.flying t k (omega (arith, length-take-le b.flying b.copies short)))),
+      )
+
+      pub shape_tested : r ≡ in_shape b
+      shape_tested = last ∙ sym (asked_last ∙ rw yes)
+
+      pub shape_found : r ≡ true → InShape b
+      shape_found t = found_in_shape b sized (λ _. heads.fit both.0) (sym shape_tested ∙ t)
