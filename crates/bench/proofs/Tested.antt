@@ -260,11 +260,11 @@ pub record Heads (b : Bench) (v : Bool) : Type 0 where
   pub fit : v ≡ true → (k : ℕ) → k < b.network.nswitches → SeatFits b.network b.up k (get_or b.seats k no_seat)
 
 -- a test that is made where the one before holds
-pub asked : {v w one : Bool} → v ≡ true → w ≡ one → w ≡ (v && one)
-asked h e = e ∙ rw h
+pub also : {v w one : Bool} → v ≡ true → w ≡ one → w ≡ (v && one)
+also h e = e ∙ rw h
 
-pub unasked : {v w one : Bool} → v ≡ false → w ≡ v → w ≡ (v && one)
-unasked {v} {w} {one} h e = rw (e, h)
+pub not_even : {v w : Bool} (one : Bool) → v ≡ false → w ≡ v → w ≡ (v && one)
+not_even one h e = rw (e, h)
 
 -- two tests that hold together are the same
 same_test : (a b : Bool) → (a ≡ true) ↔ (b ≡ true) → a ≡ b
@@ -278,34 +278,34 @@ module _ {b : Bench} where
   heads_asked fine is e fit = record { test = is ∙ e ∙ rw (eq-eqb (network_fault b.network) 0 fine); fit = λ t. fit (sym is ∙ t) }
 
   pub heads_unasked : {A : Type 0} (a : Result A Refusal) {v r : Bool} → r ≡ is_ok a → refused_as a ≡ network_fault b.network → r ≡ false → v ≡ r → Heads b v
-  heads_unasked a found e no is = record {
-    test = unasked no is ∙ ap (λ d. d && seats_fit b.network b.up b.seats b.network.nswitches) (found ∙ is_ok_as a ∙ ap (λ n. eqb n 0) e);
-    fit = λ t. absurd (true≢false (sym t ∙ is ∙ no));
+  heads_unasked a found e fails is = record {
+    test = not_even _ fails is ∙ ap (λ d. d && seats_fit b.network b.up b.seats b.network.nswitches) (found ∙ is_ok_as a ∙ ap (λ n. eqb n 0) e);
+    fit = λ t. absurd (true≢false (sym t ∙ is ∙ fails));
   }
 
-  module _ {v u r : Bool} (sized : Sized b) (heads : Heads b v) (few : u ≡ (v && leb b.flying most)) where
-    asked_last : in_shape b ≡ (u && copies_fit b.network.nlinks b.up b.copies b.flying)
+  module _ {v u : Bool} (sized : Sized b) (heads : Heads b v) (few : u ≡ (v && leb b.flying most)) where
+    last_asked : in_shape b ≡ (u && copies_fit b.network.nlinks b.up b.copies b.flying)
     unfolding in_shape
-    asked_last = rw (few, heads.test)
+    last_asked = rw (few, heads.test)
 
     pub shape_unasked : u ≡ false → u ≡ in_shape b
-    shape_unasked no = sym (asked_last ∙ rw no ∙ sym no)
+    shape_unasked fails = sym (last_asked ∙ rw fails ∙ sym fails)
 
-    module _ (yes : u ≡ true) (each : IsTrue r ↔ EachIndex (take b.flying b.copies) (λ k. IsTrue (copy_fits b.network.nlinks b.up (get_or (take b.flying b.copies) k no_copy)))) where
+    module _ {r : Bool} (holds : u ≡ true) (each : IsTrue r ↔ EachIndex (take b.flying b.copies) (λ k. IsTrue (copy_fits b.network.nlinks b.up (get_or (take b.flying b.copies) k no_copy)))) where
       both : (v ≡ true) × (leb b.flying most ≡ true)
-      both = halves v (leb b.flying most) (sym few ∙ yes)
+      both = halves v (leb b.flying most) (sym few ∙ holds)
 
-      short : b.flying ≤ length b.copies
-      short = omega (arith, leb-true b.flying most both.1, sized.copies)
+      long : length (take b.flying b.copies) ≡ b.flying
+      long = length-take-le b.flying b.copies (omega (arith, leb-true b.flying most both.1, sized.copies))
 
       last : r ≡ copies_fit b.network.nlinks b.up b.copies b.flying
-      last = same_test _ _ (
-        λ t. all_below_lem _ b.flying (λ k h. rw get_or-take at (each.0 t k (omega (arith, length-take-le b.flying b.copies short)))),
-        λ t. each.1 (λ k h. rw get_or-take (each_below _ b.flying t k (omega (arith, length-take-le b.flying b.copies short)))),
+      last = same_test r _ (
+        λ t. all_below_lem _ b.flying (λ k h. rw (← get_or-take b.flying b.copies k no_copy h) (each.0 t k (omega (arith, long)))),
+        λ t. each.1 (λ k h. let l : k < b.flying = omega (arith, long) in rw (get_or-take b.flying b.copies k no_copy l) (each_below _ b.flying t k l)),
       )
 
       pub shape_tested : r ≡ in_shape b
-      shape_tested = last ∙ sym (asked_last ∙ rw yes)
+      shape_tested = last ∙ sym (last_asked ∙ rw holds)
 
       pub shape_found : r ≡ true → InShape b
       shape_found t = found_in_shape b sized (λ _. heads.fit both.0) (sym shape_tested ∙ t)

@@ -1,18 +1,22 @@
 -- The setup is asked, and where it is the one that follows, refusal 1.
-use mathlib.Core.Path.{sym, ap, ◌∙◌}
-use Rattle.refusal.specs.Number.{refused_as}
-use Rattle.bench.proofs.Tested.{setup_differs, setup_fits, setup_follows}
+use mathlib.Core.Path.{sym, ◌∙◌}
+use Rattle.seat.proofs.Laws.{refusal_formed}
+use Rattle.bench.proofs.Tested.{none_found, setup_differs, setup_fits, setup_follows}
 use Rattle.bench.proofs.shape.seat_fits.Goals as goal
 
 pub returns-then-eq-clause-test : goal.returns-then-eq-clause-test
 returns-then-eq-clause-test c =
     let a = c.args in
-    setup_fits a.network.now a.up.now a.switch a.seat.now c.requires c.setup_of.ensures c.check.result (sym c.if-eq.ensures) c.is_ok.ensures.value c.check.ensures
+    setup_fits a.network.now a.up.now a.switch a.seat.now c.requires c.setup_of.ensures c.check.result (sym c.if-eq.ensures) c.is_ok.ensures.value c.check.ensures.refused
 
 pub returns-then-eq-clause-fits : goal.returns-then-eq-clause-fits
 returns-then-eq-clause-fits c t =
     let a = c.args in
-    record { setup = setup_follows a.network.now a.up.now a.switch a.seat.now c.requires c.setup_of.ensures (sym c.if-eq.ensures); formed = ? }
+    let sized = c.check.ensures.sized in
+    record {
+      setup = setup_follows a.network.now a.up.now a.switch a.seat.now c.requires c.setup_of.ensures (sym c.if-eq.ensures);
+      formed = (refusal_formed a.seat.now ?).0 (none_found c.check.result c.is_ok.ensures.value c.check.ensures.refused t);
+    }
 
 pub returns-else-eq-clause-test : goal.returns-else-eq-clause-test
 returns-else-eq-clause-test c =
