@@ -11,12 +11,12 @@ use lib.Dec.{eqb, leb, ltb}
 use lib.ListN.{get_or, length, take}
 use lib.Seq.{get_or-take, length-take-le}
 use borrow.Author.Tests.{eq-eqb, eqb-true, eqb-false, ne_eqb, lt-ltb, ltb-true, not-true, le-leb, leb-true}
-use Rattle.core.specs.Result.{is_ok}
-use Rattle.std.specs.Prelude.{EachIndex, IsTrue, Result, Ok, Err}
+use Rattle.std.specs.Prelude.{EachIndex, IsTrue, Result}
+use Rattle.std.specs.Result.{is_ok}
 use Rattle.refusal.specs.Refusal.{first, outside}
-use Rattle.refusal.specs.Number.{number_of, refused_as}
+use Rattle.refusal.specs.Number.{refused_as}
 use Rattle.refusal.specs.declared.Refusal.{Refusal}
-use Rattle.refusal.proofs.Told.{refused_apart}
+use Rattle.refusal.proofs.Told.{is_ok_as}
 use Rattle.refusal.proofs.Laws.{inside, not_outside}
 use Rattle.wire.specs.Address.{is_source}
 use Rattle.wire.specs.Below.{all_below}
@@ -46,15 +46,6 @@ join : (a b : Bool) → a ≡ true → b ≡ true → (a && b) ≡ true
 join a b p q = (and-eq-true_iff a b).1 (p, q)
 
 -- ---- An answer
-
--- a refusal has a number
-pub some : (r : Refusal) → number_of r ≡ 0 → ⊥
-some r e = let q : ◌≡◌ {A = Result Bool Refusal} (Ok true) (Err r) = refused_apart r (Ok true) (sym e) in cc
-
--- an answer is none where its number is 0
-pub is_ok_as : {A : Type 0} (a : Result A Refusal) → is_ok a ≡ eqb (refused_as a) 0
-is_ok_as (Ok x) = refl
-is_ok_as (Err r) = sym (ne_eqb (number_of r) 0 (some r))
 
 -- a call that is answered has the number 0
 pub none_found : {A : Type 0} (a : Result A Refusal) {n : ℕ} {r : Bool} → r ≡ is_ok a → refused_as a ≡ n → r ≡ true → n ≡ 0
@@ -289,7 +280,7 @@ module _ {b : Bench} where
     last_asked = rw (few, heads.test)
 
     pub shape_unasked : u ≡ false → u ≡ in_shape b
-    shape_unasked fails = sym (last_asked ∙ rw fails ∙ sym fails)
+    shape_unasked fails = let e : in_shape b ≡ false = last_asked ∙ rw fails refl in fails ∙ sym e
 
     module _ {r : Bool} (holds : u ≡ true) (each : IsTrue r ↔ EachIndex (take b.flying b.copies) (λ k. IsTrue (copy_fits b.network.nlinks b.up (get_or (take b.flying b.copies) k no_copy)))) where
       both : (v ≡ true) × (leb b.flying most ≡ true)

@@ -1,11 +1,13 @@
 -- Number and values tell the answers apart, so a contract that gives them gives the answer.
 use Prim.Native.Nat.{ℕ}
 use mathlib.Core.Path.{◌≡◌, refl, sym, ap, ◌∙◌}
-use mathlib.Core.Bool.{cond}
+use mathlib.Core.Bool.{cond, true, false≢true}
 use mathlib.Core.List.{List}
 use lib.Dec.{eqb}
 use native.Mathlib.Omega.{arith}
-use Rattle.std.specs.Prelude.{Result, Ok, Err}
+use borrow.Author.Tests.{ne_eqb}
+use Rattle.std.specs.Prelude.{OnOk, Result, Ok, Err}
+use Rattle.std.specs.Result.{is_ok}
 use Rattle.refusal.specs.Refusal.{Told}
 use Rattle.refusal.specs.Number.{number_of, refused_as, told}
 use Rattle.refusal.specs.OneOutcome.{TellsApart}
@@ -92,7 +94,8 @@ back NoSuchCopy = refl
 back NoSuchLink = refl
 back TooManyEvents = refl
 
-some : (r : Refusal) → number_of r ≡ 0 → ⊥
+-- and none has the number 0
+pub some : (r : Refusal) → number_of r ≡ 0 → ⊥
 some IllFormed e = omega arith
 some NoSuchPort e = omega arith
 some PortDown e = omega arith
@@ -140,3 +143,13 @@ told_apart apart (Err r) (Err s) e = ap Err (number_apart r s (same_number e))
 pub refused_apart : {A : Type 0} (r : Refusal) (a : Result A Refusal) → refused_as a ≡ number_of r → a ≡ Err r
 refused_apart r (Ok x) e = absurd (some r (sym e))
 refused_apart r (Err s) e = ap Err (number_apart s r e)
+
+-- an answer is none exactly where its number is 0
+pub is_ok_as : {A : Type 0} (a : Result A Refusal) → is_ok a ≡ eqb (refused_as a) 0
+is_ok_as (Ok x) = refl
+is_ok_as (Err r) = sym (ne_eqb (number_of r) 0 (some r))
+
+-- what is promised of a value holds of an answer that is none
+pub on_ok : {A P : Type 0} (a : Result A Refusal) → is_ok a ≡ true → OnOk a P → P
+on_ok (Ok x) e p = p
+on_ok (Err r) e p = absurd (false≢true e)

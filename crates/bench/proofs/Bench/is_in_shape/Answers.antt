@@ -22,12 +22,12 @@ returns-then-self-le-MOST c =
     let b = c.args.self.now in
     let sized : Sized b = record { up = search rules; seats = search rules; copies = search rules } in
     let heads : Heads b c.if-is_ok.value = elim c.if-is_ok.branch [
-      then-is_ok w ↦ heads_asked (none_found c.check.result c.is_ok.ensures.value c.check.ensures w.if-is_ok.true) w.value-is w.seats_fit.ensures.test w.seats_fit.ensures.fit
-    | else-is_ok w ↦ heads_unasked c.check.result c.is_ok.ensures.value c.check.ensures w.if-is_ok.false w.value-is
+      | then-is_ok w ↦ heads_asked (none_found c.check.result c.is_ok.ensures.value c.check.ensures w.if-is_ok.true) w.value-is w.seats_fit.ensures.test w.seats_fit.ensures.fit
+      | else-is_ok w ↦ heads_unasked c.check.result c.is_ok.ensures.value c.check.ensures w.if-is_ok.false w.value-is
     ] in
     let few : c.if-seats_fit.value ≡ (c.if-is_ok.value && leb b.flying most) = elim c.if-seats_fit.branch [
-      then-seats_fit w ↦ also w.if-seats_fit.true w.value-is
-    | else-seats_fit w ↦ not_even _ w.if-seats_fit.false w.value-is
+      | then-seats_fit w ↦ also w.if-seats_fit.true w.value-is
+      | else-seats_fit w ↦ not_even _ w.if-seats_fit.false w.value-is
     ] in
     record { test = shape_tested sized heads few c.if-self-le-MOST.true c.copies_fit.ensures; shape = shape_found sized heads few c.if-self-le-MOST.true c.copies_fit.ensures }
 
@@ -36,11 +36,11 @@ returns-else-self-le-MOST-clause-test c =
     let b = c.args.self.now in
     let sized : Sized b = record { up = search rules; seats = search rules; copies = search rules } in
     let heads : Heads b c.if-is_ok.value = elim c.if-is_ok.branch [
-      then-is_ok w ↦ heads_asked (none_found c.check.result c.is_ok.ensures.value c.check.ensures w.if-is_ok.true) w.value-is w.seats_fit.ensures.test w.seats_fit.ensures.fit
-    | else-is_ok w ↦ heads_unasked c.check.result c.is_ok.ensures.value c.check.ensures w.if-is_ok.false w.value-is
+      | then-is_ok w ↦ heads_asked (none_found c.check.result c.is_ok.ensures.value c.check.ensures w.if-is_ok.true) w.value-is w.seats_fit.ensures.test w.seats_fit.ensures.fit
+      | else-is_ok w ↦ heads_unasked c.check.result c.is_ok.ensures.value c.check.ensures w.if-is_ok.false w.value-is
     ] in
     let few : c.if-seats_fit.value ≡ (c.if-is_ok.value && leb b.flying most) = elim c.if-seats_fit.branch [
-      then-seats_fit w ↦ also w.if-seats_fit.true w.value-is
-    | else-seats_fit w ↦ not_even _ w.if-seats_fit.false w.value-is
+      | then-seats_fit w ↦ also w.if-seats_fit.true w.value-is
+      | else-seats_fit w ↦ not_even _ w.if-seats_fit.false w.value-is
     ] in
     shape_unasked sized heads few c.if-self-le-MOST.false

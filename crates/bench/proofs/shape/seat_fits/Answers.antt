@@ -1,5 +1,6 @@
 -- The setup is asked, and where it is the one that follows, refusal 1.
 use mathlib.Core.Path.{sym, ◌∙◌}
+use Rattle.refusal.proofs.Told.{on_ok}
 use Rattle.seat.proofs.Laws.{refusal_formed}
 use Rattle.bench.proofs.Tested.{none_found, setup_differs, setup_fits, setup_follows}
 use Rattle.bench.proofs.shape.seat_fits.Goals as goal
@@ -12,10 +13,9 @@ returns-then-eq-clause-test c =
 pub returns-then-eq-clause-fits : goal.returns-then-eq-clause-fits
 returns-then-eq-clause-fits c t =
     let a = c.args in
-    let sized = c.check.ensures.sized in
     record {
       setup = setup_follows a.network.now a.up.now a.switch a.seat.now c.requires c.setup_of.ensures (sym c.if-eq.ensures);
-      formed = (refusal_formed a.seat.now ?).0 (none_found c.check.result c.is_ok.ensures.value c.check.ensures.refused t);
+      formed = (refusal_formed a.seat.now (on_ok c.check.result (sym c.is_ok.ensures.value ∙ t) c.check.ensures.sized)).0 (none_found c.check.result c.is_ok.ensures.value c.check.ensures.refused t);
     }
 
 pub returns-else-eq-clause-test : goal.returns-else-eq-clause-test
