@@ -1,4 +1,5 @@
-// A head's switch, lent as its next nonce, its table's three arrays and its filter.
+// A head's switch, lent as its next nonce, its table's three arrays and its filter. The parameters
+// are those of the C functions, which pass numbers and slices only.
 ghost use Rattle.std.specs.Prelude.{[], ◌∷◌, ◌≡◌, IfOk, MatchOption, false, length, true};
 ghost use Rattle.refusal.specs.Number.{refused_as};
 ghost use Rattle.table.specs.Table.{table_of};
