@@ -283,10 +283,7 @@ fn rule9(s: Setup, filter: &mut [u8], a: Arrival) -> Outcome
             header,
         })
     };
-    Outcome {
-        verdict,
-        overwrote,
-    }
+    Outcome { verdict, overwrote }
 }
 
 // Rule 10, where the destination's entry names the arrival port.

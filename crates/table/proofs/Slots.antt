@@ -3,7 +3,7 @@ use mathlib.Core.Path.{◌≡◌, refl, ap, subst, sym, ◌∙◌}
 use mathlib.Core.Logic.{◌≢◌, ⊎_elim}
 use mathlib.Core.List.{List, [], ◌∷◌}
 use mathlib.Core.Bool.{Bool, true, false, cond}
-use Prim.Native.Nat.{ℕ, zero, suc, ◌+◌, ◌-◌, ◌<◌, ◌≤◌}
+use Prim.Native.Nat.{ℕ, zero, suc, ◌+◌, ◌*◌, ◌/◌, ◌<◌, ◌≤◌}
 use native.Mathlib.Numerals.{add-one}
 use native.Mathlib.Nat.{add-zero, zero-add, not-suc-le-zero, le_of_suc-le-suc, not-le_of_lt, eq-or-lt_of_le}
 use native.Mathlib.Omega.{arith}
@@ -28,13 +28,14 @@ module _ (x : ℕ) (l : List ℕ) (i : ℕ) (p : Passed x l i) where
   slot_end h = sym (rw (drop_of_length-le l h) at p.rest ∙ add-zero i)
 
 -- four at a time
-pub slots_next : (x : ℕ) (l : List ℕ) (i : ℕ) → Passed x l i → 4 ≤ length l - i → NoneOf x (get_or l i 0) (get_or l (i + 1) 0) (get_or l (i + 2) 0) (get_or l (i + 3) 0) → Passed x l (i + 4)
-slots_next x l i p more none =
+pub slots_next : (x : ℕ) (l : List ℕ) (n : ℕ) → Passed x l (4 * n) → n < length l / 4
+    → NoneOf x (get_or l (4 * n) 0) (get_or l (4 * n + 1) 0) (get_or l (4 * n + 2) 0) (get_or l (4 * n + 3) 0) → Passed x l (4 * (n + 1))
+slots_next x l n p more none =
     let next : (j k : ℕ) → j < length l → Passed x l j → get_or l j 0 ≢ x → k ≡ j + 1 → Passed x l k = λ j k h q off e. subst (Passed x l) (sym e) (slot_next x l j q h off) in
-    let one = next i (i + 1) (omega arith) p none.first refl in
-    let two = next (i + 1) (i + 2) (omega arith) one none.second (omega arith) in
-    let three = next (i + 2) (i + 3) (omega arith) two none.third (omega arith) in
-    next (i + 3) (i + 4) (omega arith) three none.fourth (omega arith)
+    let one = next (4 * n) (4 * n + 1) (omega arith) p none.first refl in
+    let two = next (4 * n + 1) (4 * n + 2) (omega arith) one none.second (omega arith) in
+    let three = next (4 * n + 2) (4 * n + 3) (omega arith) two none.third (omega arith) in
+    next (4 * n + 3) (4 * (n + 1)) (omega arith) three none.fourth (omega arith)
 
 pub none_passed : (x : ℕ) (l : List ℕ) → Passed x l 0
 none_passed x l = record { within = omega arith; rest = sym (zero-add (slot_of x l)) }

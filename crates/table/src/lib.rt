@@ -100,7 +100,7 @@ impl Table {
         true
     }
 
-    // Slot `slot` is written.
+    // Writes one slot.
     #[tactic(auto, unfolding(crate::specs::Table::put))]
     fn put(&mut self, slot: usize, address: u64, port: u8, hc: u8)
         requires { slot < slots }
@@ -135,12 +135,13 @@ fn is_one_of(address: u64, a: u64, b: u64, c: u64, d: u64) -> bool
 }
 
 // Four slots at a time: from where on an address is to be searched for slot by slot. No slot before has it.
+// By index: `chunks_exact` and `position` were measured slower.
 #[tactic(auto, using(crate::proofs::Slots::none_passed, crate::proofs::Slots::slots_next))]
 fn passed(addresses: &[u64], address: u64) -> usize
     ensures { Passed address addresses.now result }
 {
-    let mut slot: usize = 0;
-    while 4 <= addresses.len() - slot {
+    for four in 0..addresses.len() / 4 {
+        let slot = 4 * four;
         let a = addresses[slot];
         let b = addresses[slot + 1];
         let c = addresses[slot + 2];
@@ -148,9 +149,8 @@ fn passed(addresses: &[u64], address: u64) -> usize
         if is_one_of(address, a, b, c, d) {
             return slot;
         }
-        slot += 4;
     }
-    slot
+    addresses.len() / 4 * 4
 }
 
 // The first place of an address, or the length.

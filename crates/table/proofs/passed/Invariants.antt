@@ -1,11 +1,7 @@
 -- Four slots that were asked and don't have the address are passed.
-use lib.ListN.{length}
-use Prim.Native.Nat.{◌-◌}
+use Prim.Native.Nat.{◌*◌}
 use Rattle.table.specs.Table.{Passed}
 use Rattle.table.proofs.passed.Given as goal
 
-abbrev pub invariant-loop-slot : goal.invariant-loop-slot
-invariant-loop-slot l = Passed l.address l.addresses l.slot
-
-abbrev pub decreases-loop-slot : goal.decreases-loop-slot
-decreases-loop-slot l = length l.addresses - l.slot
+abbrev pub invariant-loop-four : goal.invariant-loop-four
+invariant-loop-four l = Passed l.address l.addresses (4 * l.four)
