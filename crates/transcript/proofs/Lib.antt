@@ -1,5 +1,4 @@
 pub mod Laws
-mod Following
 mod Standing
 mod Small
 mod Printing

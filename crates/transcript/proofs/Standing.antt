@@ -18,14 +18,13 @@ use Rattle.event.specs.declared.Event.{Event}
 use Rattle.turn.specs.declared.Done.{Done}
 use Rattle.turn.specs.Turn.{Answer, Kept, Turn, Turns, head_of, turn_of}
 use Rattle.bench.specs.declared.Bench.{Bench}
-use Rattle.bench.specs.Bench.{all_up, bench_of, fresh_bench, in_flight, no_seat, seat_at}
+use Rattle.bench.specs.Bench.{bench_of, fresh_bench, in_flight, no_seat, seat_at}
 use Rattle.bench.specs.Events.{Happened, event_of, follow, happened_as, turned, turn_in}
-use Rattle.bench.proofs.Laws.{follow_again}
+use Rattle.bench.proofs.Laws.{follow_again, follow_at, follows_fresh}
 use Rattle.counters.specs.declared.Counters.{Counters}
 use Rattle.counters.specs.Event.{event_refusal, happens_by, happens_of, refusal_numbered}
 use Rattle.transcript.specs.declared.running.Parts.{Parts}
-use Rattle.transcript.specs.Running.{Acts, Taken, copies_of, fresh_parts, head_at, refusal_at, turn_at}
-use Rattle.transcript.proofs.Following.{fresh_follow, head_follows}
+use Rattle.transcript.specs.Running.{Acts, Taken, copies_of, fresh_parts, head_at, refusal_at, seated_at, turn_at}
 use Rattle.transcript.proofs.Small.{own_numbered}
 
 unfoldable pub bench_on : Network → Parts → Bench
@@ -35,8 +34,8 @@ bench_on n p = bench_of n p.up (follow n p.up 0 p.seats) (padded no_copy most (c
 
 -- no words are no copies
 pub fresh_stands : (n : Network) → n.nswitches ≤ most_switches → bench_on n fresh_parts ≡ fresh_bench n
-unfolding bench_on fresh_bench copies_in
-fresh_stands n few = ap (λ seats. bench_of n all_up seats (replicate most no_copy) 0) (fresh_follow n all_up few)
+unfolding bench_on copies_in
+fresh_stands n few = follows_fresh few refl refl refl
 
 -- ---- One event
 
@@ -51,10 +50,10 @@ module _ (n : Network) (p : Parts) (kept : Kept p.words p.flying) where
   module _ (e : Event) where
     -- the turn that the bench's head takes
     turn_on : head_at n p e < n.nswitches → n.nswitches ≤ length p.seats → turn_in bench e ≡ turn_at n p e
-    unfolding turn_in seat_at bench_on turn_at
+    unfolding turn_in seat_at bench_on turn_at seated_at
     turn_on there few =
         ap (λ cs. turn_of n p.up (get_or (follow n p.up 0 p.seats) (head_of n cs e) no_seat) cs e) flying_on
-        ∙ ap (λ s. turn_of n p.up s (copies_of p) e) (head_follows n p.up (head_at n p e) p.seats there (omega arith))
+        ∙ ap (λ s. turn_of n p.up s (copies_of p) e) (follow_at n p.up p.seats (head_at n p e) (omega arith) there)
 
     -- the bench behind a turn
     turned_on : {d : Done} {q : Parts} {s : Seat} {t : Turn} (k : ℕ) → Turns t q.up s q.words q.flying d → q.seats ≡ set p.seats k s → turned bench k t ≡ happened_as (bench_on n q) (Ok d)

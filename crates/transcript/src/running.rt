@@ -95,6 +95,7 @@ pub fn run(network: &Network, input: &[u8], start: usize, out: &mut [u8]) -> usi
     let mut number: u32 = 1;
     let mut at = start;
     let mut wrote: usize = 0;
+    // By a place: how long its record is says where the next event stands.
     while at < input.len() {
         let Ok(e) = read_event(input, at) else {
             return put_stop(out, wrote);
