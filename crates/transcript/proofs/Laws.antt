@@ -1,6 +1,6 @@
 -- What callers cite: no transcript is longer than the bound, an answer and an output are the only ones, and the whole run is as document 01 prints it.
 use Prim.Native.Nat.{ℕ}
-use mathlib.Core.Path.{◌≡◌, refl}
+use mathlib.Core.Path.{refl}
 use mathlib.Core.List.{List}
 use Rattle.std.specs.Prelude.{Option, None, Some}
 use Rattle.refusal.specs.OneOutcome.{OneOutcome, TellsApart}

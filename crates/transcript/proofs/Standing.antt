@@ -1,14 +1,12 @@
 -- The bench that a run stands for: the run's links, heads and packed copies, all heads following the links' states. An event on that bench is what the run does.
 use Prim.Native.Nat.{ℕ, zero, suc, ◌-◌, ◌<◌, ◌≤◌}
 use mathlib.Core.Path.{◌≡◌, refl, sym, ap, ap₂, ◌∙◌}
-use mathlib.Core.List.{List}
 use native.Mathlib.Omega.{arith}
 use lib.ListN.{get_or, length, replicate, set}
 use lib.Seq.{take_at}
 use Rattle.std.specs.Prelude.{Ok, Err}
 use Rattle.refusal.specs.declared.Refusal.{Refusal}
 use Rattle.refusal.specs.Number.{number_of}
-use Rattle.refusal.proofs.Told.{number_apart}
 use Rattle.network.specs.declared.Network.{Network}
 use Rattle.network.specs.Network.{most_switches, padded}
 use Rattle.seat.specs.declared.Seat.{Seat}
@@ -19,7 +17,7 @@ use Rattle.turn.specs.declared.Done.{Done}
 use Rattle.turn.specs.Turn.{Answer, Kept, Turn, Turns, head_of, turn_of}
 use Rattle.bench.specs.declared.Bench.{Bench}
 use Rattle.bench.specs.Bench.{bench_of, fresh_bench, in_flight, no_seat, seat_at}
-use Rattle.bench.specs.Events.{Happened, event_of, follow, happened_as, turned, turn_in}
+use Rattle.bench.specs.Events.{event_of, follow, happened_as, turned, turn_in}
 use Rattle.bench.proofs.Laws.{follow_again, follow_at, follows_fresh}
 use Rattle.counters.specs.declared.Counters.{Counters}
 use Rattle.counters.specs.Event.{event_refusal, happens_by, happens_of, refusal_numbered}

@@ -4,7 +4,7 @@ use Rattle.refusal.specs.Number.{number_of}
 use Rattle.refusal.specs.declared.Refusal.{Refusal}
 use Rattle.wire.specs.Wire.{put}
 use Rattle.network.specs.declared.Network.{Network}
-use Rattle.network.specs.Network.{most_links, most_switches}
+use Rattle.network.specs.Network.{most_switches}
 use Rattle.network.specs.Checks.{network_fault}
 use Rattle.cabling.specs.Cabling.{plugs_of, setup_of}
 use Rattle.seat.specs.declared.Seat.{Seat}
