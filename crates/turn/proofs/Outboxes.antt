@@ -25,7 +25,6 @@ use Rattle.flight.specs.declared.Copy.{Copy}
 use Rattle.flight.specs.Flight.{Joined, copies_in, most, pack}
 use Rattle.flight.proofs.Laws.{copies_length}
 use Rattle.turn.specs.declared.sending.Sent.{Sent}
-use Rattle.turn.proofs.Writing.{written_none_as}
 use Rattle.turn.specs.Send.{Numbered, Outbox, Received, Room, Written, copy_to, joins, nothing_sent, outbox, receives, send_at, send_from, send_on, send_out}
 
 -- ---- A copy joins
@@ -54,11 +53,6 @@ placed_there {words} {after} {s} {many} {c} room less joined =
     ap (λ flying. record { flying = flying; received = s.received; placed = s.placed + 1; lost = s.lost }) joined.copies
     ∙ sym (joins_room c (outbox (copies_in s.flying words) s) (omega (arith, long room)))
 
-pub room_there : {words after : List (List ℕ)} {s : Sent} {many : ℕ} {c : Copy} → Room words s many → s.flying < most → Joined s.flying c words after
-    → Room after (record { flying = s.flying + 1; received = s.received; placed = s.placed + 1; lost = s.lost }) (s.placed + s.lost + 1)
-room_there {words} {after} {s} {many} {c} room less joined =
-    record { whole = ap length joined.words ∙ length-set words s.flying (pack c) ∙ room.whole; few = omega arith; sent = omega arith }
-
 -- the list is full
 pub lost_there : {words : List (List ℕ)} {s : Sent} {many : ℕ} (c : Copy) → Room words s many → most ≤ s.flying
     → outbox (copies_in s.flying words) (record { flying = s.flying; received = s.received; placed = s.placed; lost = s.lost + 1 })
@@ -68,7 +62,7 @@ lost_there {words} {s} c room full = sym (joins_full c (outbox (copies_in s.flyi
 -- ---- A host receives
 
 -- the bit of one of 32 hosts
-pub host_bit : (i : ℕ) → i < 32 → 1 * 2 ^ i % 2 ^ 32 ≡ 2 ^ i
+host_bit : (i : ℕ) → i < 32 → 1 * 2 ^ i % 2 ^ 32 ≡ 2 ^ i
 host_bit i h = ap (λ x. x % 2 ^ 32) (one-mul (2 ^ i)) ∙ mod-eq_of_lt (pow-lt h)
 
 pub received_there : (i : ℕ) (s : Sent) → i < 32
@@ -80,27 +74,6 @@ received_there i s h =
       box = λ xs. ap (λ b. record { flying = xs; received = bit_or s.received b; placed = s.placed; lost = s.lost }) (host_bit i h);
       sent = refl;
     }
-
--- what is received leaves the copies as they are
-pub host_sent : {i : ℕ} {s r : Sent} {plug : Plug} (words : List (List ℕ)) (a : Arrival) (h : Header) → plug ≡ Host i → Received i s r
-    → outbox (copies_in r.flying words) r ≡ send_on plug a h (outbox (copies_in s.flying words) s)
-unfolding send_on
-host_sent {i} {s} {r} words a h e v =
-    rw e (v.box (copies_in r.flying words) ∙ ap (λ n. receives i (outbox (copies_in n words) s)) v.flying)
-
-pub host_written : {i : ℕ} {s r : Sent} (words : List (List ℕ)) → Received i s r → Written s.flying words r.flying words
-host_written words v = written_none_as words v.flying
-
-pub host_room : {i many : ℕ} {s r : Sent} {words : List (List ℕ)} → Room words s many → Received i s r → Room words r (s.placed + s.lost + 1)
-host_room room v = record { whole = room.whole; few = omega (arith, room.few, v.flying); sent = omega (arith, v.sent) }
-
--- ---- A link carries
-
--- the copy goes to the end that is not here
-pub link_sent : {plug : Plug} {e far : End} {copy : Copy} (a : Arrival) (h : Header) (x : Outbox) {y : Outbox} → plug ≡ Link e → far ≡ other_end e → copy ≡ copy_to far a h
-    → y ≡ joins copy x → y ≡ send_on plug a h x
-unfolding send_on
-link_sent a h x p f c j = rw p (j ∙ ap (λ d. joins d x) (c ∙ ap (λ end. copy_to end a h) f))
 
 -- ---- A host's number
 
@@ -128,19 +101,6 @@ numbered ps k p = by_test (ltb p most_ports)
     by_test true = numbered_in (get_or ps (k * most_ports + p) 0)
     by_test false = tt
 
--- ---- A port
-
-module _ (plug : ℕ → Plug) (a : Arrival) (mask : ℕ) (h : Header) (p : ℕ) {named : Bool} (x : Outbox) where
-  -- the mask names it
-  pub named_sent : {here : Plug} {y : Outbox} → named ≡ names mask p → named ≡ true → here ≡ plug p → y ≡ send_on here a h x → y ≡ send_at plug a mask h p x
-  unfolding send_at
-  named_sent n t q j = rw (← n, t, ← q) j
-
-  -- or doesn't
-  pub unnamed_kept : named ≡ names mask p → named ≡ false → x ≡ send_at plug a mask h p x
-  unfolding send_at
-  unnamed_kept n t = rw (← n, t)
-
 -- ---- Port by port
 
 -- the ports below one have sent: what the others send makes up the whole
@@ -150,35 +110,28 @@ pub record Reached (plug : ℕ → Plug) (a : Arrival) (mask : ℕ) (h : Header)
   pub room : Room words s port
   pub so_far : send_from plug a mask h left port (outbox (copies_in s.flying words) s) ≡ whole
 
-module _ {plug : ℕ → Plug} {a : Arrival} {mask : ℕ} {h : Header} where
-  pub reached_start : {words : List (List ℕ)} {flying : ℕ} → length words ≡ most → flying ≤ most
-      → Reached plug a mask h (send_from plug a mask h most_ports 0 (nothing_sent (copies_in flying words))) words (record { flying = flying; received = 0; placed = 0; lost = 0 }) 0
-  reached_start long few = record { left = most_ports; count = refl; room = record { whole = long; few = few; sent = omega arith }; so_far = refl }
+module _ {plug : ℕ → Plug} {a : Arrival} {mask : ℕ} {h : Header} {whole : Outbox} {words : List (List ℕ)} {s : Sent} {port : ℕ} where
+  pub reached_next : {after : List (List ℕ)} {r : Sent} → Reached plug a mask h whole words s port → port < most_ports
+      → outbox (copies_in r.flying after) r ≡ send_at plug a mask h port (outbox (copies_in s.flying words) s)
+      → Room after r (s.placed + s.lost + 1) → Reached plug a mask h whole after r (port + 1)
+  unfolding send_from
+  reached_next {after} {r} v less e room = by_left v.left v.count v.so_far
+    where
+      by_left : (left : ℕ) → port + left ≡ most_ports → send_from plug a mask h left port (outbox (copies_in s.flying words) s) ≡ whole → Reached plug a mask h whole after r (port + 1)
+      by_left zero count so_far = absurd (omega arith)
+      by_left (suc left) count so_far =
+          record {
+            left = left;
+            count = omega arith;
+            room = record { whole = room.whole; few = room.few; sent = omega (arith, room.sent, v.room.sent) };
+            so_far = ap (send_from plug a mask h left (port + 1)) e ∙ so_far;
+          }
 
-  module _ {whole : Outbox} {words : List (List ℕ)} {s : Sent} {port : ℕ} where
-    pub reached_next : {after : List (List ℕ)} {r : Sent} → Reached plug a mask h whole words s port → port < most_ports
-        → outbox (copies_in r.flying after) r ≡ send_at plug a mask h port (outbox (copies_in s.flying words) s)
-        → Room after r (s.placed + s.lost + 1) → Reached plug a mask h whole after r (port + 1)
-    unfolding send_from
-    reached_next {after} {r} v less e room = by_left v.left v.count v.so_far
-      where
-        by_left : (left : ℕ) → port + left ≡ most_ports → send_from plug a mask h left port (outbox (copies_in s.flying words) s) ≡ whole → Reached plug a mask h whole after r (port + 1)
-        by_left zero count so_far = absurd (omega arith)
-        by_left (suc left) count so_far =
-            record {
-              left = left;
-              count = omega arith;
-              room = record { whole = room.whole; few = room.few; sent = omega (arith, room.sent, v.room.sent) };
-              so_far = ap (send_from plug a mask h left (port + 1)) e ∙ so_far;
-            }
+  pub reached_end : Reached plug a mask h whole words s port → most_ports ≤ port → outbox (copies_in s.flying words) s ≡ whole
+  unfolding send_from
+  reached_end v least = by_left v.left v.count v.so_far
+    where
+      by_left : (left : ℕ) → port + left ≡ most_ports → send_from plug a mask h left port (outbox (copies_in s.flying words) s) ≡ whole → outbox (copies_in s.flying words) s ≡ whole
+      by_left zero count so_far = so_far
+      by_left (suc left) count so_far = absurd (omega arith)
 
-    pub reached_end : Reached plug a mask h whole words s port → most_ports ≤ port → outbox (copies_in s.flying words) s ≡ whole
-    unfolding send_from
-    reached_end v least = by_left v.left v.count v.so_far
-      where
-        by_left : (left : ℕ) → port + left ≡ most_ports → send_from plug a mask h left port (outbox (copies_in s.flying words) s) ≡ whole → outbox (copies_in s.flying words) s ≡ whole
-        by_left zero count so_far = so_far
-        by_left (suc left) count so_far = absurd (omega arith)
-
-    pub reached_room : Reached plug a mask h whole words s port → Room words s most_ports
-    reached_room v = record { whole = v.room.whole; few = v.room.few; sent = omega (arith, v.room.sent, v.count) }

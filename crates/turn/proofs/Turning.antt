@@ -71,9 +71,6 @@ head_steps n up k s a {w} {sent} {plugs} {after} flying stepped went room same =
 -- ---- A host presents
 
 module _ (s : Seat) (h : Host) (to : ℕ) {a : Arrival} (arrives : a ≡ arrival_of h.port.number h.address to (host_header s.switch.nonce s.switch.table h.address)) where
-  pub presented_port : h.port.number < 16 → a.port < 16
-  presented_port less = omega (arith, ap (λ (b : Arrival). b.port) arrives)
-
   pub presented_is : (n : Network) (up : List Bool) (flying : List Copy) → steps n up h.port.switch s a flying ≡ presents n up s flying h to
   unfolding presents host_arrival from_host
   presented_is n up flying = ap (λ b. steps n up h.port.switch s b flying) arrives
@@ -206,16 +203,6 @@ module _ (n : Network) (flying : ℕ) where
 
 -- ---- By the event
 
-module _ (n : Network) (flying : List Copy) {e : Event} (can : CanTurn n flying e) where
-  pub present_can : {p : Presented} {h : Host} → e ≡ Present p → h ≡ host_of n p.host → h.port.number < 16
-  present_can q t = rw t (subst (CanTurn n flying) q can)
-
-  pub take_can : {place : ℕ} → e ≡ Take place → CanTake n flying place
-  take_can q = subst (CanTurn n flying) q can
-
-  pub link_can : {s : Setting} → e ≡ Link s → s.link < most_links
-  link_can q = subst (CanTurn n flying) q can
-
 module _ (n : Network) (up : List Bool) (s : Seat) (flying : List Copy) {e : Event} where
   pub present_turn : {p : Presented} {h : Host} {to : ℕ} → e ≡ Present p → h ≡ host_of n p.host → to ≡ address_of p.to → presents n up s flying h to ≡ turn_of n up s flying e
   unfolding turn_of
@@ -228,18 +215,3 @@ module _ (n : Network) (up : List Bool) (s : Seat) (flying : List Copy) {e : Eve
   pub link_turn : {l : Setting} → e ≡ Link l → sets up s flying l.link (is_up l.state) ≡ turn_of n up s flying e
   unfolding turn_of
   link_turn q = rw q
-
--- ---- What stays in the array
-
-module _ {e : Event} (front before : List (List ℕ)) {n : ℕ} {after : List (List ℕ)} where
-  pub present_stays : {p : Presented} → e ≡ Present p → Laid front before n after → Laid (staying e front) before n after
-  unfolding staying
-  present_stays q v = rw q v
-
-  pub take_stays : {place : ℕ} → e ≡ Take place → Laid (without place front) before n after → Laid (staying e front) before n after
-  unfolding staying
-  take_stays q v = rw q v
-
-  pub link_stays : {s : Setting} → e ≡ Link s → Laid (spared_words_by (is_up s.state) s.link front) before n after → Laid (staying e front) before n after
-  unfolding staying
-  link_stays q v = rw q v

@@ -14,13 +14,6 @@ use Rattle.flight.proofs.Laws.{copies_length, copy_at_is}
 use Rattle.turn.specs.Send.{Written}
 use Rattle.turn.specs.Turn.{Laid, Spares, spared_words_by}
 
--- none
-pub written_none : (n : ℕ) (words : List (List ℕ)) → Written n words n words
-written_none n words = record { more = omega arith; long = refl; new = λ i least less. absurd (omega arith); others = λ i _. refl }
-
-pub written_none_as : {n m : ℕ} (words : List (List ℕ)) → m ≡ n → Written n words m words
-written_none_as {n} words e = subst (λ m. Written n words m words) (sym e) (written_none n words)
-
 -- one, with the copy that joined
 pub written_joined : {n : ℕ} {c : Copy} {before after : List (List ℕ)} → n < length before → Joined n c before after → Written n before (n + 1) after
 written_joined {n} {c} {before} {after} less joined =
@@ -79,11 +72,3 @@ laid_without {n} {m} {place} {before} {between} {after} less h taken v =
     let count : n - 1 ≡ length (without place (take n before)) = omega (arith, one_fewer place (take n before) (omega arith)) in
     subst (λ ws. Written (length (without place (take n before))) ws m after) taken.words (subst (λ k. Written k between m after) count v)
 
--- what a link's state spares
-pub laid_spared : {state : Bool} {l flying left : ℕ} {before after : List (List ℕ)} → Spares state l before flying after left
-    → Laid (spared_words_by state l (take flying before)) before left after
-laid_spared {state} {l} {flying} {left} {before} {after} v = only (spared_words_by state l (take flying before)) v.words v.count
-  where
-    only : (front : List (List ℕ)) → after ≡ laid front before → left ≡ length front → Laid front before left after
-    only front e count =
-        subst (λ ws. Laid front before left ws) (sym e) (subst (λ k. Laid front before k (laid front before)) (sym count) (written_none (length front) (laid front before)))

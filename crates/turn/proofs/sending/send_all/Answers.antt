@@ -1,5 +1,4 @@
 use Rattle.turn.proofs.Writing.{written_then}
-use native.Mathlib.Omega.{arith}
 use Rattle.turn.proofs.Outboxes.{reached_next, reached_end}
 use Rattle.turn.proofs.sending.send_all.Goals as goal
 
