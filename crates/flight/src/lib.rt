@@ -76,6 +76,7 @@ impl Copy {
 }
 
 // Of n copies, the one at a place is taken out, and those behind it move up one.
+#[tactic(auto, using(crate::proofs::Sweep::moved_starts, crate::proofs::Sweep::moved_next, crate::proofs::Sweep::moved_ends))]
 pub fn take_out(words: &mut [[u64; 3]], n: usize, place: usize)
     requires { (place < n) × (n ≤ length words.old) }
     ensures { TakenOut place n words.old words.new }
@@ -105,6 +106,7 @@ pub fn cut(words: &mut [[u64; 3]], n: usize, link: u8) -> usize
 }
 
 // One copy more at the end of the list.
+#[tactic(auto, using(crate::proofs::Laws::joined))]
 pub fn join(words: &mut [[u64; 3]], n: usize, c: Copy)
     requires { n < length words.old }
     ensures { Joined n c words.old words.new }
@@ -114,6 +116,7 @@ pub fn join(words: &mut [[u64; 3]], n: usize, c: Copy)
 }
 
 // The copy at a place; all zeros behind the array's end.
+#[tactic(auto, unfolding(crate::specs::Flight::unpack))]
 pub fn copy_at(words: &[[u64; 3]], place: usize) -> Copy
     ensures { result ≡ copy_at words.now place }
 {
@@ -137,6 +140,7 @@ pub fn words_of(copies: &[Copy; Copy::MOST], n: usize) -> [[u64; 3]; Copy::MOST]
 }
 
 // The copies that the first n words carry, none behind them.
+#[tactic(auto, using(crate::proofs::Sweep::unpacked_starts, crate::proofs::Sweep::unpacked_next))]
 pub fn copies_of(words: &[[u64; 3]], n: usize) -> [Copy; Copy::MOST]
     requires { (n ≤ length words.now) × (n ≤ most) }
     ensures { result ≡ copies_in n words.now ++ replicate (most - n) no_copy }

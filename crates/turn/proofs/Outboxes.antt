@@ -41,39 +41,11 @@ pub joins_full : (c : Copy) (x : Outbox) → most ≤ length x.flying
 unfolding joins
 joins_full c x h = rw (le-ltb (length x.flying) most h)
 
--- the list is as long as it says
-long : {words : List (List ℕ)} {s : Sent} {many : ℕ} → Room words s many → length (copies_in s.flying words) ≡ s.flying
-long {words} {s} room = copies_length s.flying words (omega (arith, room.whole, room.few))
-
--- its words are put behind the list
-pub placed_there : {words after : List (List ℕ)} {s : Sent} {many : ℕ} {c : Copy} → Room words s many → s.flying < most → Joined s.flying c words after
-    → outbox (copies_in (s.flying + 1) after) (record { flying = s.flying + 1; received = s.received; placed = s.placed + 1; lost = s.lost })
-    ≡ joins c (outbox (copies_in s.flying words) s)
-placed_there {words} {after} {s} {many} {c} room less joined =
-    ap (λ flying. record { flying = flying; received = s.received; placed = s.placed + 1; lost = s.lost }) joined.copies
-    ∙ sym (joins_room c (outbox (copies_in s.flying words) s) (omega (arith, long room)))
-
--- the list is full
-pub lost_there : {words : List (List ℕ)} {s : Sent} {many : ℕ} (c : Copy) → Room words s many → most ≤ s.flying
-    → outbox (copies_in s.flying words) (record { flying = s.flying; received = s.received; placed = s.placed; lost = s.lost + 1 })
-    ≡ joins c (outbox (copies_in s.flying words) s)
-lost_there {words} {s} c room full = sym (joins_full c (outbox (copies_in s.flying words) s) (omega (arith, long room)))
-
 -- ---- A host receives
 
 -- the bit of one of 32 hosts
-host_bit : (i : ℕ) → i < 32 → 1 * 2 ^ i % 2 ^ 32 ≡ 2 ^ i
+pub host_bit : (i : ℕ) → i < 32 → 1 * 2 ^ i % 2 ^ 32 ≡ 2 ^ i
 host_bit i h = ap (λ x. x % 2 ^ 32) (one-mul (2 ^ i)) ∙ mod-eq_of_lt (pow-lt h)
-
-pub received_there : (i : ℕ) (s : Sent) → i < 32
-    → Received i s (record { flying = s.flying; received = bit_or s.received (1 * 2 ^ i % 2 ^ 32); placed = s.placed; lost = s.lost })
-unfolding receives
-received_there i s h =
-    record {
-      flying = refl;
-      box = λ xs. ap (λ b. record { flying = xs; received = bit_or s.received b; placed = s.placed; lost = s.lost }) (host_bit i h);
-      sent = refl;
-    }
 
 -- ---- A host's number
 

@@ -48,6 +48,7 @@ fn copy_to(e: End, a: Arrival, h: Header) -> Copy
 }
 
 // A new copy joins the end while there is room; the others are lost.
+#[tactic(auto, using(crate::proofs::Outboxes::joins_room, crate::proofs::Outboxes::joins_full, flight::proofs::Laws::copies_length, crate::proofs::Writing::written_joined))]
 fn join(c: Copy, words: &mut [[u64; 3]], s: Sent) -> Sent
     requires { Room words.old s 254 }
     ensures sent { outbox (copies_in result.flying words.new) result ≡ joins c (outbox (copies_in s.flying words.old) s) }
@@ -71,6 +72,7 @@ fn join(c: Copy, words: &mut [[u64; 3]], s: Sent) -> Sent
 }
 
 // A host receives: its bit is set.
+#[tactic(auto, using(crate::proofs::Outboxes::host_bit), unfolding(crate::specs::Send::receives))]
 fn receive(i: u8, s: Sent) -> Sent
     requires { i < 32 }
     ensures { Received i s result }
@@ -97,7 +99,7 @@ fn send_on(plug: Plug, a: Arrival, h: Header, words: &mut [[u64; 3]], s: Sent) -
 }
 
 // A port sends where the mask names it.
-#[tactic(auto, unfolding(crate::specs::Send::send_at))]
+#[tactic(auto, using(crate::proofs::Outboxes::numbered), unfolding(crate::specs::Send::send_at))]
 fn send_at(
     plugs: &[u8],
     switch: u8,
