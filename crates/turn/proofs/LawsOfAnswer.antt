@@ -10,7 +10,6 @@ use Rattle.rules.specs.declared.Report as rules
 use Rattle.rules.specs.declared.Verdict.{Verdict}
 use Rattle.head.proofs.Laws as head
 use Rattle.turn.specs.declared.Report.{Report}
-use Rattle.turn.specs.declared.Done.{Done}
 use Rattle.turn.specs.declared.Done.TheVariants.{Stepped, Linked}
 use Rattle.turn.specs.Turn.{done_values, report_values, told}
 

@@ -1,31 +1,24 @@
 -- What the code that sends has done so far, as an outbox: one lemma for each way on.
 use Prim.Native.Nat.{ℕ, zero, suc, ◌+◌, ◌-◌, ◌*◌, ◌/◌, ◌%◌, ◌^◌, ◌≤◌, ◌<◌}
-use mathlib.Core.Path.{◌≡◌, refl, sym, ap, ◌∙◌}
+use mathlib.Core.Path.{◌≡◌, refl, ap, ◌∙◌}
 use mathlib.Core.Bool.{Bool, true, false, cond}
 use mathlib.Core.List.{List, [], ◌∷◌, ◌++◌}
 use native.Mathlib.Nat.{one-mul, mod-eq_of_lt}
 use native.Mathlib.Omega.{arith}
-use lib.Bits.{bit_or}
 use lib.Dec.{eqb, ltb}
-use lib.ListN.{length, get_or, length-set}
+use lib.ListN.{length, get_or}
 use lib.Pow.{pow-lt}
 use borrow.Author.Tests.{lt-ltb, le-ltb, ltb-true}
-use Rattle.std.specs.Prelude.{Option, Some, None}
 use Rattle.frame.specs.declared.Header.{Header}
 use Rattle.rules.specs.declared.Arrival.{Arrival}
-use Rattle.rules.specs.declared.Send.{Send}
-use Rattle.rules.specs.declared.Verdict.{Verdict}
-use Rattle.rules.specs.Mask.{names}
-use Rattle.rules.specs.Verdict.{sending_of}
 use Rattle.cabling.specs.declared.End.{End}
 use Rattle.cabling.specs.declared.Plug.{Plug}
 use Rattle.cabling.specs.declared.Plug.TheVariants.{Open, Host, Link}
-use Rattle.cabling.specs.Cabling.{most_ports, other_end, plug_at, plug_in}
+use Rattle.cabling.specs.Cabling.{most_ports, plug_at, plug_in}
 use Rattle.flight.specs.declared.Copy.{Copy}
-use Rattle.flight.specs.Flight.{Joined, copies_in, most, pack}
-use Rattle.flight.proofs.Laws.{copies_length}
+use Rattle.flight.specs.Flight.{copies_in, most}
 use Rattle.turn.specs.declared.sending.Sent.{Sent}
-use Rattle.turn.specs.Send.{Numbered, Outbox, Received, Room, Written, copy_to, joins, nothing_sent, outbox, receives, send_at, send_from, send_on, send_out}
+use Rattle.turn.specs.Send.{Numbered, Outbox, Room, joins, outbox, send_at, send_from}
 
 -- ---- A copy joins
 

@@ -2,22 +2,20 @@
 use Prim.Native.Nat.{ℕ, ◌-◌, ◌≤◌, ◌<◌}
 use mathlib.Core.Path.{◌≡◌, refl, sym, ap, ap₂, subst, ◌∙◌}
 use mathlib.Core.Logic.{by_cases}
-use mathlib.Core.Bool.{Bool, true, false, cond, or-false}
+use mathlib.Core.Bool.{Bool, true, false, cond}
 use mathlib.Core.List.{List, [], ◌∷◌}
 use native.Mathlib.Decide.{dec_lt}
 use native.Mathlib.Omega.{arith}
 use lib.Dec.{eqb, leb}
 use lib.ListN.{length, set, take, length-map, get_or-eq_default}
 use lib.Seq.{length-take-le}
-use borrow.Author.Tests.{leb-false, eqb-false, lt-leb}
+use borrow.Author.Tests.{leb-false, eqb-false}
 use Rattle.wire.specs.Address.{address_bound}
-use Rattle.refusal.specs.Refusal.{next, when}
 use Rattle.refusal.specs.Exact.{NoneHolds, Numbered}
-use Rattle.refusal.proofs.Laws.{in_order, neither, none_holds}
+use Rattle.refusal.proofs.Laws.{neither, none_holds}
 use Rattle.rules.specs.declared.Arrival.{Arrival}
 use Rattle.rules.specs.Verdict.{sending_of}
 use Rattle.network.specs.declared.Network.{Network}
-use Rattle.network.specs.Network.{most_links}
 use Rattle.network.specs.declared.Port.{Port}
 use Rattle.network.specs.declared.Host.{Host}
 use Rattle.cabling.specs.Cabling.{plug_at, plugs_of}
@@ -37,7 +35,7 @@ use Rattle.turn.specs.declared.Done.{Done}
 use Rattle.turn.specs.declared.Done.TheVariants.{Stepped, Linked}
 use Rattle.turn.specs.declared.sending.Sent.{Sent}
 use Rattle.turn.specs.Send.{Outbox, Room, nothing_sent, outbox, send_out}
-use Rattle.turn.specs.Turn.{CanTake, CanTurn, Kept, Laid, Spares, Turn, Turns, copy_arrival, copy_at, host_arrival, host_of, is_up, no_link, outbox_of, own_causes, own_refusal, plug_of, port_to, presents, sets, spared_words_by, staying, step_report, steps, takes, to_zero, turn_of}
+use Rattle.turn.specs.Turn.{CanTake, Kept, Spares, Turn, Turns, copy_arrival, copy_at, host_arrival, host_of, is_up, outbox_of, own_causes, own_refusal, plug_of, port_to, presents, sets, step_report, steps, takes, turn_of}
 
 -- ---- The list
 

@@ -1,8 +1,7 @@
 -- Which places of the array were written.
 use Prim.Native.Nat.{ℕ, ◌+◌, ◌-◌, ◌≤◌, ◌<◌}
-use mathlib.Core.Path.{◌≡◌, refl, sym, ap, subst, ◌∙◌}
+use mathlib.Core.Path.{◌≡◌, sym, ap, subst, ◌∙◌}
 use mathlib.Core.Logic.{◌⊎◌, inl, inr, ⊎_elim, by_cases}
-use mathlib.Core.Bool.{Bool}
 use mathlib.Core.List.{List, []}
 use native.Mathlib.Decide.{dec_lt}
 use native.Mathlib.Omega.{arith}
@@ -12,7 +11,7 @@ use Rattle.flight.specs.declared.Copy.{Copy}
 use Rattle.flight.specs.Flight.{Joined, TakenOut, copies_in, copy_at, laid, no_copy, pack, unpack, without}
 use Rattle.flight.proofs.Laws.{copies_length, copy_at_is}
 use Rattle.turn.specs.Send.{Written}
-use Rattle.turn.specs.Turn.{Laid, Spares, spared_words_by}
+use Rattle.turn.specs.Turn.{Laid}
 
 -- one, with the copy that joined
 pub written_joined : {n : ℕ} {c : Copy} {before after : List (List ℕ)} → n < length before → Joined n c before after → Written n before (n + 1) after
