@@ -4,6 +4,7 @@ use mathlib.Core.Path.{◌≡◌, refl, sym, ap, ◌∙◌}
 use mathlib.Core.Logic.{by_cases}
 use mathlib.Core.List.{List, ◌∷◌, ◌++◌, append_assoc, append-nil}
 use native.Mathlib.Nat.{add-zero, pow-zero, pow-suc, div-one, div-div-eq-div-mul}
+use native.Mathlib.Numerals.{add-one}
 use native.Mathlib.Decide.{dec_lt}
 use native.Mathlib.Omega.{arith}
 use lib.ListN.{length, get_or, set, take, drop, take-append-drop, length-set}
@@ -69,23 +70,12 @@ width_most (suc k) n h =
     let tens : 10 ^ suc (suc k) ≡ 10 ^ suc k * 10 = pow-suc 10 (suc k) in
     omega (arith, width_more n (omega arith), width_most k (n / 10) (omega arith)))
 
--- while its digits are counted: so many were, and those of what is left are still to be
-pub record Counting (n left count : ℕ) : Type 0 where
-  pub some : 1 ≤ count
-  pub all : width n + 1 ≡ count + width left
-
-pub counting_starts : (n : ℕ) → Counting n n 1
-counting_starts n = record { some = omega arith; all = omega arith }
-
-module _ {n left count : ℕ} (r : Counting n left count) where
-  pub counting_next : 10 ≤ left → Counting n (left / 10) (count + 1)
-  counting_next h = record { some = omega arith; all = omega (arith, r.all, width_more left h) }
-
-  pub counting_small : n < 10 ^ 10 → count ≤ 10
-  counting_small h = omega (arith, r.all, width_most 9 n h, width_least left)
-
-  pub counting_ends : left < 10 → count ≡ width n
-  counting_ends h = omega (arith, r.all, width_small left h)
+-- a number from a power of ten on, and below ten times it
+pub width_is : (n k : ℕ) → 10 ^ k ≤ n → n < 10 * 10 ^ k → width n ≡ k + 1
+width_is n zero least most = width_small n (omega arith)
+width_is n (suc k) least most =
+    let tens : 10 ^ suc k ≡ 10 ^ k * 10 = pow-suc 10 k in
+    omega (arith, width_more n (omega arith), width_is (n / 10) k (omega arith) (omega arith))
 
 -- a byte put right before others that were put is put with them
 set_before : (l : List ℕ) (j : ℕ) (x : ℕ) (bs : List ℕ) → j < length l → set (put l (suc j) bs) j x ≡ put l j (x ∷ bs)
@@ -101,39 +91,38 @@ set_before l j x bs h =
       append_assoc (take j l) (x ∷ bs) rest,
     )
 
--- while digits are put: of the count the first i are still to be put, the others are
-pub record Putting (start out : List ℕ) (at n base count left i : ℕ) : Type 0 where
-  pub done : ℕ
-  pub all : i + done ≡ count
+-- while digits are put: so many are, and the others are still to be
+pub record Putting (start out : List ℕ) (at n base count left done : ℕ) : Type 0 where
+  pub within : done ≤ count
   pub rest : left ≡ n / base ^ done
-  pub so_far : out ≡ put start (at + i) (digits base done n)
+  pub so_far : out ≡ put start (at + (count - done)) (digits base done n)
   pub long : length out ≡ length start
 
-pub putting_starts : (start : List ℕ) (at n base count : ℕ) → Putting start start at n base count n count
+pub putting_starts : (start : List ℕ) (at n base count : ℕ) → Putting start start at n base count n 0
 unfolding digits
-putting_starts start at n base count = record { done = 0; all = omega arith; rest = rw (pow-zero, div-one); so_far = rw (append-nil, add-zero, take-append-drop); long = refl }
+putting_starts start at n base count = record { within = omega arith; rest = rw (pow-zero, div-one); so_far = rw (append-nil, add-zero, take-append-drop); long = refl }
 
-module _ {start out : List ℕ} {at n base count left i : ℕ} (p : Putting start out at n base count left i) (room : at + count ≤ length start) where
-  pub putting_next : 0 < i → {x : ℕ} → x ≡ hex_of (left % base) → Putting start (set out (at + (i - 1)) x) at n base count (left / base) (i - 1)
+module _ {start out : List ℕ} {at n base count left done : ℕ} (p : Putting start out at n base count left done) (room : at + count ≤ length start) where
+  pub putting_next : done < count → {x : ℕ} → x ≡ hex_of (left % base) → Putting start (set out (at + (count - done - 1)) x) at n base count (left / base) (done + 1)
   unfolding digits
   putting_next h {x} e =
-      let j = at + (i - 1) in
-      let ds = digits base p.done n in
-      let before : at + i ≡ suc j = omega arith in
-      let digit : x ≡ hex_of (n / base ^ p.done % base) = e ∙ ap (λ m. hex_of (m % base)) p.rest in
+      let j = at + (count - done - 1) in
+      let ds = digits base done n in
+      let before : at + (count - done) ≡ suc j = omega arith in
+      let here : at + (count - (done + 1)) ≡ j = omega arith in
+      let digit : x ≡ hex_of (n / base ^ done % base) = e ∙ ap (λ m. hex_of (m % base)) p.rest in
       record {
-        done = suc p.done;
-        all = omega (arith, p.all);
-        rest = ap (λ m. m / base) p.rest ∙ div-div-eq-div-mul n (base ^ p.done) base ∙ ap (λ m. n / m) (sym (pow-suc base p.done));
+        within = omega arith;
+        rest = rw add-one (ap (λ m. m / base) p.rest ∙ div-div-eq-div-mul n (base ^ done) base ∙ ap (λ m. n / m) (sym (pow-suc base done)));
         so_far =
             ap (λ l. set l j x) (p.so_far ∙ ap (λ k. put start k ds) before)
-            ∙ set_before start j x ds (omega (arith, p.all))
-            ∙ ap (λ d. put start j (d ∷ ds)) digit;
-        long = length-set out (at + (i - 1)) x ∙ p.long;
+            ∙ set_before start j x ds (omega arith)
+            ∙ rw (here, add-one) (ap (λ d. put start j (d ∷ ds)) digit);
+        long = length-set out j x ∙ p.long;
       }
 
-  pub putting_ends : i ≤ 0 → out ≡ put start at (digits base count n)
+  pub putting_ends : count ≤ done → out ≡ put start at (digits base count n)
   putting_ends h =
-      let first : at + i ≡ at = omega arith in
-      let every : p.done ≡ count = omega (arith, p.all) in
-      p.so_far ∙ ap (λ k. put start k (digits base p.done n)) first ∙ ap (λ k. put start at (digits base k n)) every
+      let first : at + (count - done) ≡ at = omega arith in
+      let every : done ≡ count = omega arith in
+      p.so_far ∙ ap (λ k. put start k (digits base done n)) first ∙ ap (λ k. put start at (digits base k n)) every

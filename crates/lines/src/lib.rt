@@ -21,14 +21,9 @@ pub struct Line {
     pub flying: u16,
 }
 
-const SPACE: u8 = 0x20;
+const SPACE: u8 = b' ';
 
-const NEWLINE: u8 = 0x0A;
-
-const ZERO: u8 = 0x30;
-
-// What the digits from 10 on are above, so that 10 is an a.
-const BELOW_A: u8 = 0x57;
+const NEWLINE: u8 = b'\n';
 
 const DECIMAL: u32 = 10;
 
@@ -38,41 +33,32 @@ const HEXADECIMAL: u32 = 16;
 const MARKS: usize = 8;
 
 // A digit as it is printed.
+#[tactic(auto, unfolding(crate::specs::Lines::hex_of))]
 fn hex_of(d: u8) -> u8
     requires { d < 16 }
     ensures { result ≡ hex_of d }
 {
-    if d < 10 {
-        return ZERO + d;
-    }
-    BELOW_A + d
+    if d < 10 { b'0' + d } else { b'a' + (d - 10) }
 }
 
-// How many decimal digits a number has.
+// How many decimal digits a number has; 0 has one.
 fn width_of(n: u32) -> usize
     ensures { (result ≡ width n) × (result ≤ 10) }
 {
-    let mut left = n;
-    let mut count: usize = 1;
-    while DECIMAL <= left {
-        left = left / DECIMAL;
-        count += 1;
-    }
-    count
+    n.max(1).ilog10() as usize + 1
 }
 
-// Puts the lowest digits of a number into the output from a place on.
+// Puts the lowest digits of a number into the output from a place on. By place: they fall out of
+// the division from the back.
 fn put_digits(out: &mut [u8], at: usize, n: u32, base: u32, count: usize)
     requires count_in_bounds { at + count ≤ length out.old }
     requires base_in_range { (2 ≤ base) × (base ≤ 16) }
     ensures { out.new ≡ put out.old at (digits base count n) }
 {
     let mut left = n;
-    let mut i = count;
-    while 0 < i {
-        i -= 1;
-        out[at + i] = hex_of((left % base) as u8);
-        left = left / base;
+    for done in 0..count {
+        out[at + (count - done - 1)] = hex_of((left % base) as u8);
+        left /= base;
     }
 }
 
@@ -92,8 +78,7 @@ fn put_field(out: &mut [u8], at: usize, n: u32, letter: u8) -> usize
     ensures output { out.new ≡ put out.old at (field n letter) }
 {
     let next = put_decimal(out, at, n);
-    let bytes = [SPACE, letter, SPACE];
-    wire::put_at(out, next, &bytes);
+    wire::put_at(out, next, &[SPACE, letter, SPACE]);
     next + 3
 }
 
@@ -103,8 +88,7 @@ fn put_marked(out: &mut [u8], at: usize, received: u32) -> usize
     ensures output { out.new ≡ put out.old at (marked received) }
 {
     put_digits(out, at, received, HEXADECIMAL, MARKS);
-    let bytes = [SPACE];
-    wire::put_at(out, at + MARKS, &bytes);
+    wire::put_at(out, at + MARKS, &[SPACE]);
     at + MARKS + 1
 }
 
@@ -114,8 +98,7 @@ fn put_ending(out: &mut [u8], at: usize, n: u32) -> usize
     ensures output { out.new ≡ put out.old at (ending n) }
 {
     let next = put_decimal(out, at, n);
-    let bytes = [NEWLINE];
-    wire::put_at(out, next, &bytes);
+    wire::put_at(out, next, &[NEWLINE]);
     next + 1
 }
 
@@ -126,9 +109,9 @@ pub fn put_line(out: &mut [u8], at: usize, l: Line) -> usize
     ensures output { out.new ≡ put out.old at (line_of l) }
 {
     let a = put_field(out, at, l.number, l.letter);
-    let b = put_field(out, a, l.refusal as u32, l.verdict);
+    let b = put_field(out, a, u32::from(l.refusal), l.verdict);
     let c = put_marked(out, b, l.received);
-    put_ending(out, c, l.flying as u32)
+    put_ending(out, c, u32::from(l.flying))
 }
 
 // Puts what a refused description prints.
@@ -137,9 +120,8 @@ pub fn put_refused(out: &mut [u8], at: usize, n: u8) -> usize
     ensures end { result ≡ at + length (refused_line n) }
     ensures output { out.new ≡ put out.old at (refused_line n) }
 {
-    let bytes = [0x72u8, 0x65, 0x66, 0x75, 0x73, 0x65, 0x64, SPACE];
-    wire::put_at(out, at, &bytes);
-    put_ending(out, at + 8, n as u32)
+    wire::put_at(out, at, b"refused ");
+    put_ending(out, at + 8, u32::from(n))
 }
 
 // Puts what a bad event record prints.
@@ -148,7 +130,6 @@ pub fn put_stop(out: &mut [u8], at: usize) -> usize
     ensures end { result ≡ at + length stop_line }
     ensures output { out.new ≡ put out.old at stop_line }
 {
-    let bytes = [0x73u8, 0x74, 0x6F, 0x70, SPACE, 0x32, 0x30, NEWLINE];
-    wire::put_at(out, at, &bytes);
+    wire::put_at(out, at, b"stop 20\n");
     at + 8
 }

@@ -2,8 +2,5 @@
 use Rattle.lines.proofs.Digits.{Putting}
 use Rattle.lines.proofs.put_digits.Given as goal
 
-abbrev pub invariant-loop-i : goal.invariant-loop-i
-invariant-loop-i l = Putting l.initial.out l.out l.at l.n l.base l.count l.left l.i
-
-abbrev pub decreases-loop-i : goal.decreases-loop-i
-decreases-loop-i l = l.i
+abbrev pub invariant-loop-done : goal.invariant-loop-done
+invariant-loop-done l = Putting l.initial.out l.out l.at l.n l.base l.count l.left l.done

@@ -11,7 +11,7 @@ pub put_field-b-requires : goal.put_field-b-requires
 put_field-b-requires c =
     let a = c.args in
     let p = c.put_field-a.ensures in
-    verdict_room a.out.now a.at a.l c.requires (record { ends = p.end; output = p.output })
+    rw c.from.ensures (verdict_room a.out.now a.at a.l c.requires (record { ends = p.end; output = p.output }))
 
 pub put_marked-c-requires : goal.put_marked-c-requires
 put_marked-c-requires c =
@@ -19,7 +19,7 @@ put_marked-c-requires c =
     let p = c.put_field-a.ensures in
     let q = c.put_field-b.ensures in
     hosts_room a.out.now a.at a.l c.requires
-    (record { ends = p.end; output = p.output }) (record { ends = q.end; output = q.output })
+    (record { ends = p.end; output = p.output }) (record { ends = rw c.from.ensures at q.end; output = rw c.from.ensures at q.output })
 
 pub put_ending-requires : goal.put_ending-requires
 put_ending-requires c =
@@ -27,9 +27,9 @@ put_ending-requires c =
     let p = c.put_field-a.ensures in
     let q = c.put_field-b.ensures in
     let r = c.put_marked-c.ensures in
-    ending_room a.out.now a.at a.l
+    rw c.from-2.ensures (ending_room a.out.now a.at a.l
     c.requires
-    (record { ends = p.end; output = p.output }) (record { ends = q.end; output = q.output }) (record { ends = r.end; output = r.output })
+    (record { ends = p.end; output = p.output }) (record { ends = rw c.from.ensures at q.end; output = rw c.from.ensures at q.output }) (record { ends = r.end; output = r.output }))
 
 pub returns : goal.returns
 returns c =
@@ -40,6 +40,6 @@ returns c =
     let s = c.put_ending.ensures in
     let all = line_put a.out.now a.at a.l
     c.requires
-    (record { ends = p.end; output = p.output }) (record { ends = q.end; output = q.output }) (record { ends = r.end; output = r.output })
-    (record { ends = s.end; output = s.output }) in
+    (record { ends = p.end; output = p.output }) (record { ends = rw c.from.ensures at q.end; output = rw c.from.ensures at q.output }) (record { ends = r.end; output = r.output })
+    (record { ends = rw c.from-2.ensures at s.end; output = rw c.from-2.ensures at s.output }) in
     record { end = all.ends; output = all.output }

@@ -8,8 +8,8 @@ unfolding refused_line text
 put_ending-requires c =
     let a = c.args in
     let room = c.requires in
-    next_room a.out.now a.at (text "refused ") (ending a.n) room
-    (put_first a.out.now a.at (text "refused ") (ending a.n) room c.put_at.ensures)
+    rw c.from.ensures (next_room a.out.now a.at (text "refused ") (ending a.n) room
+    (put_first a.out.now a.at (text "refused ") (ending a.n) room c.put_at.ensures))
 
 pub returns : goal.returns
 unfolding refused_line text
@@ -18,5 +18,5 @@ returns c =
     let room = c.requires in
     let number = c.put_ending.ensures in
     let word = put_first a.out.now a.at (text "refused ") (ending a.n) room c.put_at.ensures in
-    let all = put_next a.out.now a.at (text "refused ") (ending a.n) room word (record { ends = number.end; output = number.output }) in
+    let all = put_next a.out.now a.at (text "refused ") (ending a.n) room word (record { ends = rw c.from.ensures at number.end; output = rw c.from.ensures at number.output }) in
     record { end = all.ends; output = all.output }

@@ -1,18 +1,14 @@
-use Rattle.lines.proofs.Digits.{counting_starts, counting_next, counting_small, counting_ends}
-use native.Mathlib.Omega.{arith}
+-- Digits are one more than the power of ten that the number reaches; 0 has one, as 1 has.
+use Rattle.std.proofs.Common.{◌≡◌, ◌+◌, arith, ◌∙◌, sym, ap}
+use mathlib.Core.Logic.{by_cases}
+use native.Mathlib.Decide.{ℕ_discrete}
+use Rattle.lines.specs.Lines.{width}
+use Rattle.lines.proofs.Digits.{width_is, width_small}
 use Rattle.lines.proofs.width_of.Goals as goal
 
-pub loop-left-init : goal.loop-left-init
-loop-left-init c = counting_starts _
-
-pub overflow_add-count : goal.overflow_add-count
-overflow_add-count c = omega (arith, counting_small c.loop-left.invariant (omega arith))
-
-pub loop-left-smaller : goal.loop-left-smaller
-loop-left-smaller c = omega arith
-
-pub loop-left-preserved : goal.loop-left-preserved
-loop-left-preserved c = counting_next c.loop-left.invariant (omega arith)
-
 pub returns : goal.returns
-returns c = (counting_ends c.loop-left.invariant (omega arith), counting_small c.loop-left.invariant (omega arith))
+returns c =
+    let some : c.ilog10.result + 1 ≡ width c.max.result = sym (width_is _ _ c.ilog10.ensures.power_le c.ilog10.ensures.next_power_gt) in
+    by_cases (ℕ_discrete c.args.n 0)
+    (λ z. (omega (arith, width_small c.max.result (omega arith), width_small c.args.n (omega arith)), omega arith))
+    (λ d. let same : c.max.result ≡ c.args.n = omega arith in (some ∙ ap width same, omega arith))
