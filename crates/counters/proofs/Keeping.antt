@@ -33,12 +33,15 @@ either_not_28 : (t : Bool) {n m : ℕ} → n ≢ 28 → m ≢ 28 → cond t n m 
 either_not_28 true p q = p
 either_not_28 false p q = q
 
+away : (n : ℕ) → (n ≡ 28 → ⊥) → n ≢ 28
+away n h = h
+
 -- an event's own refusals are 30 to 33
 own_not_28 : (n : Network) (flying : ℕ) (e : Event) → own_refusal n flying e ≢ 28
 unfolding own_refusal
-own_not_28 n flying (Present e) = either_not_28 _ (λ z. omega arith) (either_not_28 _ (λ z. omega arith) (λ z. omega arith))
-own_not_28 n flying (Take place) = either_not_28 _ (λ z. omega arith) (λ z. omega arith)
-own_not_28 n flying (Link e) = either_not_28 _ (λ z. omega arith) (λ z. omega arith)
+own_not_28 n flying (Present e) = either_not_28 _ (away 30 (λ z. omega arith)) (either_not_28 _ (away 31 (λ z. omega arith)) (away 0 (λ z. omega arith)))
+own_not_28 n flying (Take place) = either_not_28 _ (away 32 (λ z. omega arith)) (away 0 (λ z. omega arith))
+own_not_28 n flying (Link e) = either_not_28 _ (away 33 (λ z. omega arith)) (away 0 (λ z. omega arith))
 
 module _ {s : State} (k : InRun s) where
   -- before a million events 34 and 28 are out of the question

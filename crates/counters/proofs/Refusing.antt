@@ -4,12 +4,11 @@ use mathlib.Core.Path.{◌≡◌, refl, sym, ap, ◌∙◌}
 use mathlib.Core.Bool.{Bool, true, false, cond}
 use native.Mathlib.Omega.{arith}
 use borrow.Author.Tests.{le-leb, lt-leb}
-use Rattle.std.specs.Prelude.{Result, Ok, Err}
+use Rattle.std.specs.Prelude.{Ok, Err}
 use Rattle.refusal.specs.Refusal.{first}
 use Rattle.refusal.specs.Number.{number_of}
 use Rattle.refusal.specs.declared.Refusal.{Refusal}
-use Rattle.refusal.proofs.Laws.{refused_leaves}
-use Rattle.refusal.proofs.Told.{number_apart, refused_apart}
+use Rattle.refusal.proofs.Told.{number_apart, some}
 use Rattle.event.specs.declared.Event.{Event}
 use Rattle.event.specs.declared.Event.TheVariants.{Present, Take, Link}
 use Rattle.turn.specs.declared.Done.{Done}
@@ -18,7 +17,7 @@ use Rattle.bench.specs.declared.Bench.{Bench}
 use Rattle.bench.specs.Events.{event_of, happened_as}
 use Rattle.bench.specs.Shape.{in_shape}
 use Rattle.counters.specs.Counters.{Below, adds, counters_fit, plus}
-use Rattle.counters.specs.Event.{Passes, event_refusal, happens_as, happens_of, most_events, refusal_numbered}
+use Rattle.counters.specs.Event.{Passes, event_refusal, happens_as, happens_by, happens_of, most_events, refusal_numbered}
 use Rattle.counters.specs.declared.Counters.{Counters}
 
 -- a number that has a refusal of the event's
@@ -29,19 +28,22 @@ either : (t : Bool) {n m : ℕ} → Named n → Named m → Named (cond t n m)
 either true p q = p
 either false p q = q
 
-refused_some : (r : Refusal) → number_of r ≡ 0 → ⊥
-refused_some r e = let q : ◌≡◌ {A = Result Bool Refusal} (Ok true) (Err r) = refused_apart r (Ok true) (sym e) in cc
+at : (n : ℕ) → number_of (refusal_numbered n) ≡ n → Named n
+at n e some = e
+
+none : Named 0
+none some = absurd (some refl)
 
 module _ (b : Bench) (c : Counters) (e : Event) where
   -- its refusals are 34, 28 and 30 to 33
   pub event_named : Named (event_refusal b c e)
   unfolding event_refusal
-  event_named = either _ (λ _. refl) (either _ (λ _. refl) (either _ (λ _. refl) (own e)))
+  event_named = either _ (at 34 refl) (either _ (at 28 refl) (either _ (at 28 refl) (own e)))
     where
       own : (e : Event) → Named (first (own_causes b.network b.flying e))
-      own (Present p) = either _ (λ _. refl) (either _ (λ _. refl) (λ some. absurd (some refl)))
-      own (Take place) = either _ (λ _. refl) (λ some. absurd (some refl))
-      own (Link s) = either _ (λ _. refl) (λ some. absurd (some refl))
+      own (Present p) = either _ (at 30 refl) (either _ (at 31 refl) none)
+      own (Take place) = either _ (at 32 refl) none
+      own (Link s) = either _ (at 33 refl) none
 
   pub late : most_events ≤ c.accepted → event_refusal b c e ≡ 34
   unfolding event_refusal
@@ -60,19 +62,24 @@ module _ (b : Bench) (c : Counters) (e : Event) where
     unfolding event_refusal own_refusal
     in_shape_own s f = rw (lt-leb most_events c.accepted early, s, f)
 
+  -- refused with a number
+  refused_by : (n : ℕ) → (n ≡ 0 → ⊥) → happens_as b c (Err (refusal_numbered n)) ≡ happens_by n b e c
+  refused_by zero nonzero = absurd (nonzero refl)
+  refused_by (suc n) nonzero = refl
+
   -- where r is the refusal that its causes have, it is refused with r
   pub refused_happens : {r : Refusal} → number_of r ≡ event_refusal b c e → happens_as b c (Err r) ≡ happens_of b e c
   unfolding happens_of
   refused_happens {r} q =
-      let some : number_of r ≡ 0 → ⊥ = refused_some r in
-      let named : r ≡ refusal_numbered (number_of r) = number_apart r _ (sym (rw (← q) at event_named some)) in
-      rw (← q) (λ i. record { happened = happened_as (refused_leaves refl some b (event_of b e).bench i) ((ap Err named ∙ refused_leaves refl some _ (event_of b e).answer) i); counters = refused_leaves refl some c _ i })
+      let here : number_of (refusal_numbered (event_refusal b c e)) ≡ event_refusal b c e = event_named (λ z. some r (q ∙ z)) in
+      let named : r ≡ refusal_numbered (event_refusal b c e) = number_apart r _ (q ∙ sym here) in
+      rw named (refused_by (event_refusal b c e) (λ z. some r (q ∙ z)))
 
   -- accepted, where the bench is the one that it leaves, and what was done adds d, which makes k
   pub accepted_happens : {b' : Bench} {done : Done} {d k : Counters} → event_refusal b c e ≡ 0 → happened_as b' (Ok done) ≡ event_of b e → d ≡ adds e (Ok done) → k ≡ plus c d
       → happens_as b' c (Ok (record { done = done; counters = k })) ≡ happens_of b e c
   unfolding happens_of
-  accepted_happens none happened added summed = rw (none, summed, added, ← happened)
+  accepted_happens accepted happened added summed = rw (accepted, summed, added, ← happened)
 
   -- counters that fit are small
   pub passes_below : Passes b c e → Below (2 ^ 63) c

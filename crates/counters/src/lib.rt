@@ -59,6 +59,7 @@ impl Counters {
     }
 
     // Their part of refusal 28. With fewer than a million events no sum is too large.
+    #[tactic(auto, unfolding(crate::specs::Counters::counters_fit))]
     fn fit(self, flying: usize) -> bool
         requires { (self.accepted < most_events) × (flying ≤ most) }
         ensures { result ≡ counters_fit flying self }
@@ -73,6 +74,7 @@ impl Counters {
     }
 
     // Counter by counter.
+    #[tactic(auto, unfolding(crate::specs::Counters::plus))]
     fn plus(self, d: Counters) -> Self
         requires { Below (2 ^ 63) self × Below (2 ^ 63) d }
         ensures { result ≡ spec.plus self d }
@@ -100,6 +102,7 @@ fn taken_at(e: Event) -> u64
 }
 
 // What an event adds to each, by what it did.
+#[tactic(auto, using(frame::proofs::Laws::flag_bit), unfolding(crate::specs::Counters::adds))]
 fn adds(e: Event, done: Done) -> Counters
     ensures adds { result ≡ spec.adds e (Ok done) }
     ensures small { Below (2 ^ 63) result }
@@ -127,6 +130,7 @@ fn adds(e: Event, done: Done) -> Counters
 }
 
 // 34, then 28, then the event's own causes.
+#[tactic(auto, using(crate::proofs::Fit::found_fit), unfolding(crate::specs::Event::event_refusal, turn::specs::Turn::own_refusal))]
 fn check(bench: &Bench, e: Event, c: Counters) -> Result<(), Refusal>
     ensures refusal { refused_as result ≡ event_refusal bench.now c e }
     ensures passes { OnOk result (Passes bench.now c e) }
