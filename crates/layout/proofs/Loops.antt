@@ -1,9 +1,13 @@
 -- The loops' invariants, each a record over the values at the loop's head, with the laws that start it, carry it on and end it.
-use Prim.Native.Nat.{ℕ, suc, ◌+◌, ◌-◌, ◌*◌, ◌<◌, ◌≤◌}
+use Prim.Native.Nat.{ℕ, zero, suc, ◌+◌, ◌-◌, ◌*◌, ◌<◌, ◌≤◌}
 use mathlib.Core.Path.{◌≡◌, refl, sym, ap, ◌∙◌}
 use mathlib.Core.List.{List, [], ◌∷◌, ◌++◌, map, flat_map, append_assoc, append-nil}
 use native.Mathlib.Nat.{mul-suc, mul-zero}
 use borrow.Author.Count.{below_more}
+use denote.Param.Members.{Mut, Called}
+use mathlib.Core.Logic.{by_cases}
+use native.Mathlib.Decide.{ℕ_discrete}
+use Rattle.core.specs.Array.{IsFromFnResult, IsFromFnResultFrom}
 use native.Mathlib.Omega.{arith}
 use native.Mathlib.Numerals.{add-one}
 use lib.ListN.{get_or, length, take, drop, set, length-append, length-drop, length-take, drop_of_length-le}
@@ -12,7 +16,7 @@ use Rattle.wire.specs.Wire.{put, put_in}
 use Rattle.wire.proofs.Laws.{put_fits, put_put}
 use Rattle.seat.specs.declared.Seat.{Seat}
 use Rattle.layout.specs.Layout.{listed}
-use Rattle.layout.proofs.Laws.{listed_length, same_there}
+use Rattle.layout.proofs.Laws.{listed_all, listed_length, listed_same, same_there}
 
 -- what the code reads behind an array of heads: nothing but zeros, and no slot or cell
 abbrev pub blank : Seat
@@ -21,28 +25,6 @@ blank =
       switch = record { setup = record { ports = 0; live = 0; host = 0; limit = 0; salt = 0 }; nonce = 0; table = record { addresses = []; ports = []; hops = [] } };
       cells = [];
     }
-
--- ---- Reading: the first i places of an array hold the values of a list
-
-pub record Filled {A : Type 0} (f : ℕ → A) (start : List A) (i : ℕ) (xs : List A) : Type 0 where
-  pub so_far : xs ≡ listed i f ++ drop i start
-
-module _ {A : Type 0} {f : ℕ → A} {start : List A} where
-  pub filled_starts : Filled f start 0 start
-  unfolding listed
-  filled_starts = record { so_far = refl }
-
-  pub filled_next : {i : ℕ} {xs : List A} {v : A} → Filled f start i xs → i < length start → v ≡ f i → Filled f start (i + 1) (set xs i v)
-  unfolding listed
-  filled_next {i} {xs} {v} r h e =
-      record {
-        so_far =
-            rw (add-one, r.so_far, drop-cons start i v h)
-            (set_at (listed i f) (get_or start i v) (drop (suc i) start) v i (listed_length i f) ∙ rw e (sym (append_snoc (listed i f) (f i) (drop (suc i) start))));
-      }
-
-  pub filled_ends : {i n : ℕ} {xs : List A} → Filled f start i xs → i ≡ n → length start ≤ n → xs ≡ listed n f
-  filled_ends {i} {n} r e h = r.so_far ∙ rw (e, drop_of_length-le start h) (append-nil (listed n f))
 
 -- ---- Laying: numbers put into a buffer, one behind the other
 
@@ -145,3 +127,20 @@ module _ {A : Type 0} {g : A → ℕ} {d : A} {xs : List A} {start : List ℕ} {
 
   pub column_end : {i : ℕ} {buffer : List ℕ} → Rows (λ x. g x ∷ []) 1 d xs start at i buffer → length xs ≤ i → Laying start at (map g xs) buffer
   column_end r h = rw (flat_map_lem g xs) at (rows_end r h)
+
+-- ---- An array made of what a function without a state gives at each number
+
+module _ {F B : Type 0} (g : Mut F (ℕ × Unit {0}) B) {f : F} (v : ℕ → B) (ys : List B) (d : B) where
+  made_from : (n i : ℕ) → IsFromFnResultFrom g f ys i n → ((k : ℕ) (y : B) (q : F) → k < i + n → Called g f (k, tt) y q → (q ≡ f) × (y ≡ v k))
+      → (j : ℕ) → i ≤ j → j < i + n → get_or ys j d ≡ v j
+  made_from zero i r pure j low high = absurd (omega arith)
+  made_from (suc n) i (q, y, at, call, rest) pure j low high =
+      let here = pure i y q (omega arith) call in
+      by_cases (ℕ_discrete j i) (λ e. rw e (at.1 d ∙ here.1))
+      (λ e. made_from n (i + 1) (rw here.0 at rest) (λ k z p h. pure k z p (omega arith)) j (omega arith) (omega arith))
+
+pub made : {F B : Type 0} (g : Mut F (ℕ × Unit {0}) B) {f : F} (v : ℕ → B) {ys : List B} {n : ℕ} → IsFromFnResult g f ys n
+    → ((k : ℕ) (y : B) (q : F) → k < n → Called g f (k, tt) y q → (q ≡ f) × (y ≡ v k)) → ys ≡ listed n v
+made g v {ys} {n} r pure =
+    sym (listed_all ys n (v 0) r.long)
+    ∙ listed_same n (λ i. get_or ys i (v 0)) v (λ j h. made_from g v ys (v 0) n 0 r.each (λ k y q l. pure k y q (omega arith)) j (omega arith) (omega arith))

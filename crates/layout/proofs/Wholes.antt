@@ -4,8 +4,7 @@ use mathlib.Core.Path.{◌≡◌, refl, ap, ◌∙◌}
 use mathlib.Core.List.{List, [], ◌∷◌, ◌++◌, flat_map, map, append_assoc}
 use native.Mathlib.Omega.{arith}
 use lib.ListN.{length, length-append, length-map}
-use Rattle.wire.specs.Wire.{put, put_in}
-use Rattle.wire.proofs.Laws.{put_fits}
+use Rattle.wire.specs.Wire.{put}
 use Rattle.network.specs.declared.Network.{Network}
 use Rattle.network.specs.Network.{no_host, no_link, no_switch}
 use Rattle.layout.specs.Layout.{Evenly, SizedBench, SizedNetwork, SizedSeats, bench_bytes, bench_wides, cells_at, copies_at, counts, flying_at, limits_at, ports_at, seat_bytes, seat_wides, slot_hops_at, slot_ports_at, host_bytes, hosts_at, link_bytes, links_at, network_bytes, switch_bytes, switches_at}
@@ -20,7 +19,7 @@ use Rattle.layout.proofs.Laws.{flat_length}
 
 -- a network's bytes: counts, switches, hosts, links
 module _ {n : Network} (start : List ℕ) {a b c e : List ℕ} where
-  pub network_laid : SizedNetwork n → length start ≡ 355 → a ≡ put_in start 0 (counts n) → b ≡ put a switches_at (flat_map switch_bytes n.switches)
+  pub network_laid : SizedNetwork n → length start ≡ 355 → a ≡ put start 0 (counts n) → b ≡ put a switches_at (flat_map switch_bytes n.switches)
       → c ≡ put b hosts_at (flat_map host_bytes n.hosts) → e ≡ put c links_at (flat_map link_bytes n.links) → e ≡ network_bytes n
   unfolding network_bytes
   network_laid sized long p q r s =
@@ -33,7 +32,7 @@ module _ {n : Network} (start : List ℕ) {a b c e : List ℕ} where
       let l1 : length (counts n ++ ss) ≡ 35 = simp length-append (omega arith) in
       let l2 : length ((counts n ++ ss) ++ hs) ≡ 99 = simp length-append (omega arith) in
       let l3 : length (((counts n ++ ss) ++ hs) ++ ls) ≡ 355 = simp length-append (omega arith) in
-      let v0 : Laying start 0 (counts n) a = laying_next {next = 0} (counts n) laying_starts refl (omega arith) (p ∙ put_fits start 0 (counts n) (omega arith)) in
+      let v0 : Laying start 0 (counts n) a = laying_next {next = 0} (counts n) laying_starts refl (omega arith) p in
       let v1 : Laying start 0 (counts n ++ ss) b = laying_next {next = switches_at} ss v0 refl (omega arith) q in
       let v2 : Laying start 0 ((counts n ++ ss) ++ hs) c = laying_next {next = hosts_at} hs v1 (omega arith) (omega arith) r in
       let v3 : Laying start 0 (((counts n ++ ss) ++ hs) ++ ls) e = laying_next {next = links_at} ls v2 (omega arith) (omega arith) s in

@@ -36,29 +36,14 @@ const FLYING_AT: usize = 2560;
 pub fn network_fits(bytes: usize, salts: usize, addresses: usize) -> bool
     ensures { result ≡ network_fits bytes salts addresses }
 {
-    if bytes != NETWORK_BYTES {
-        return false;
-    }
-    if salts != NETWORK_SALTS {
-        return false;
-    }
-    addresses == NETWORK_ADDRESSES
+    bytes == NETWORK_BYTES && salts == NETWORK_SALTS && addresses == NETWORK_ADDRESSES
 }
 
 // Whether four arrays of these lengths can hold a bench.
 pub fn bench_fits(bytes: usize, masks: usize, words: usize, wides: usize) -> bool
     ensures { result ≡ bench_fits bytes masks words wides }
 {
-    if bytes != BENCH_BYTES {
-        return false;
-    }
-    if masks != BENCH_MASKS {
-        return false;
-    }
-    if words != BENCH_WORDS {
-        return false;
-    }
-    wides == BENCH_WIDES
+    bytes == BENCH_BYTES && masks == BENCH_MASKS && words == BENCH_WORDS && wides == BENCH_WIDES
 }
 
 // The network that three arrays hold.
@@ -77,18 +62,14 @@ pub fn network_of(bytes: &[u8], salts: &[u32], addresses: &[u64]) -> Network
 }
 
 // Lays a network down in three arrays.
-pub fn lay_network(n: Network, bytes: &mut [u8], salts: &mut [u32], addresses: &mut [u64])
+pub fn lay_network(n: &Network, bytes: &mut [u8], salts: &mut [u32], addresses: &mut [u64])
     requires { HoldsNetwork bytes.old salts.old addresses.old }
-    ensures { LaidNetwork n bytes.new salts.new addresses.new }
+    ensures { LaidNetwork n.now bytes.new salts.new addresses.new }
 {
-    let counts = [n.nswitches, n.nhosts, n.nlinks];
-    wire::put_at(bytes, 0, &counts);
-    let switches = n.switches;
-    description::lay_switches(switches, bytes, salts);
-    let hosts = n.hosts;
-    description::lay_hosts(hosts, bytes, addresses);
-    let links = n.links;
-    description::lay_links(links, bytes);
+    puts::put_row(bytes, 0, &[n.nswitches, n.nhosts, n.nlinks]);
+    description::lay_switches(&n.switches, bytes, salts);
+    description::lay_hosts(&n.hosts, bytes, addresses);
+    description::lay_links(&n.links, bytes);
 }
 
 // The bench of a network that four arrays hold.
@@ -107,21 +88,17 @@ pub fn bench_of(n: Network, bytes: &[u8], masks: &[u16], words: &[u32], wides: &
 
 // Lays a bench down in four arrays; its network has arrays of its own.
 pub fn lay_bench(
-    b: Bench,
+    bench: &Bench,
     bytes: &mut [u8],
     masks: &mut [u16],
     words: &mut [u32],
     wides: &mut [u64],
 )
     requires { HoldsBench bytes.old masks.old words.old wides.old }
-    ensures { LaidBench b bytes.new masks.new words.new wides.new }
+    ensures { LaidBench bench.now bytes.new masks.new words.new wides.new }
 {
-    let up = b.up;
-    links::lay_states(up, bytes);
-    let seats = b.seats;
-    heads::lay_seats(seats, bytes, masks, words, wides);
-    let copies = b.copies;
-    links::lay_copies(copies, wides);
-    let last = [b.flying as u64];
-    puts::put_wides(wides, FLYING_AT, &last);
+    links::lay_states(&bench.up, bytes);
+    heads::lay_seats(&bench.seats, bytes, masks, words, wides);
+    links::lay_copies(&bench.copies, wides);
+    wides[FLYING_AT] = bench.flying as u64;
 }

@@ -1,14 +1,9 @@
-use Rattle.layout.proofs.Laws.{host_is}
-use Prim.Native.Nat.{◌-◌}
-use native.Mathlib.Omega.{arith}
-use Rattle.layout.proofs.Loops.{filled_starts, filled_next, filled_ends}
+-- Host after host is read.
+use borrow.Author.Rules.{rules}
+use Rattle.std.proofs.Common.{tests}
+use Rattle.layout.specs.Layout.{host_in}
+use Rattle.layout.proofs.Loops.{made}
 use Rattle.layout.proofs.description.hosts_of.Goals as goal
 
-pub loop-i-init : goal.loop-i-init
-loop-i-init c = (omega arith, filled_starts)
-
-pub loop-i-preserved : goal.loop-i-preserved
-loop-i-preserved c = (omega arith, filled_next c.loop-i.invariant.1 (omega arith) (host_is _ _ _ c.port_at.ensures))
-
 pub returns : goal.returns
-returns c = filled_ends c.loop-i.invariant.1 (omega arith) (omega arith)
+returns c = made _ (host_in c.args.bytes.now c.args.addresses.now) c.from_fn.ensures.items (λ k y q h call. search (rules, tests))

@@ -6,7 +6,4 @@ use Rattle.layout.proofs.Loops.{Column, Rows}
 use Rattle.layout.proofs.description.lay_hosts.Given as goal
 
 abbrev pub invariant-loop-i : goal.invariant-loop-i
-invariant-loop-i l = (l.i ≤ 32) × Rows host_bytes 2 no_host l.hosts l.initial.bytes hosts_at l.i l.bytes × Column (λ x. x.address) no_host l.hosts l.initial.addresses 0 l.i l.addresses
-
-abbrev pub decreases-loop-i : goal.decreases-loop-i
-decreases-loop-i l = 32 - l.i
+invariant-loop-i l = Rows host_bytes 2 no_host l.hosts l.initial.bytes hosts_at l.i l.bytes × Column (λ x. x.address) no_host l.hosts l.initial.addresses 0 l.i l.addresses

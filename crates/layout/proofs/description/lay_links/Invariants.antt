@@ -6,7 +6,4 @@ use Rattle.layout.proofs.Loops.{Rows}
 use Rattle.layout.proofs.description.lay_links.Given as goal
 
 abbrev pub invariant-loop-i : goal.invariant-loop-i
-invariant-loop-i l = (l.i ≤ 64) × Rows link_bytes 4 no_link l.links l.initial.bytes links_at l.i l.bytes
-
-abbrev pub decreases-loop-i : goal.decreases-loop-i
-decreases-loop-i l = 64 - l.i
+invariant-loop-i l = Rows link_bytes 4 no_link l.links l.initial.bytes links_at l.i l.bytes

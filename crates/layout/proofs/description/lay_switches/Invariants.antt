@@ -6,7 +6,4 @@ use Rattle.layout.proofs.Loops.{Column, Rows}
 use Rattle.layout.proofs.description.lay_switches.Given as goal
 
 abbrev pub invariant-loop-i : goal.invariant-loop-i
-invariant-loop-i l = (l.i ≤ 16) × Rows switch_bytes 2 no_switch l.switches l.initial.bytes switches_at l.i l.bytes × Column (λ x. x.salt) no_switch l.switches l.initial.salts 0 l.i l.salts
-
-abbrev pub decreases-loop-i : goal.decreases-loop-i
-decreases-loop-i l = 16 - l.i
+invariant-loop-i l = Rows switch_bytes 2 no_switch l.switches l.initial.bytes switches_at l.i l.bytes × Column (λ x. x.salt) no_switch l.switches l.initial.salts 0 l.i l.salts

@@ -1,14 +1,9 @@
-use Rattle.layout.proofs.Laws.{switch_is}
-use Prim.Native.Nat.{◌-◌}
-use native.Mathlib.Omega.{arith}
-use Rattle.layout.proofs.Loops.{filled_starts, filled_next, filled_ends}
+-- Switch after switch is read.
+use borrow.Author.Rules.{rules}
+use Rattle.std.proofs.Common.{tests}
+use Rattle.layout.specs.Layout.{switch_in}
+use Rattle.layout.proofs.Loops.{made}
 use Rattle.layout.proofs.description.switches_of.Goals as goal
 
-pub loop-i-init : goal.loop-i-init
-loop-i-init c = (omega arith, filled_starts)
-
-pub loop-i-preserved : goal.loop-i-preserved
-loop-i-preserved c = (omega arith, filled_next c.loop-i.invariant.1 (omega arith) (switch_is _ _ _))
-
 pub returns : goal.returns
-returns c = filled_ends c.loop-i.invariant.1 (omega arith) (omega arith)
+returns c = made _ (switch_in c.args.bytes.now c.args.salts.now) c.from_fn.ensures.items (λ k y q h call. search (rules, tests))

@@ -6,7 +6,4 @@ use Rattle.layout.proofs.Loops.{Rows}
 use Rattle.layout.proofs.heads.lay_cells.Given as goal
 
 abbrev pub invariant-loop-k : goal.invariant-loop-k
-invariant-loop-k l = (l.k ≤ 16) × Rows (λ s. s.cells) 640 no_seat l.seats l.initial.bytes cells_at l.k l.bytes
-
-abbrev pub decreases-loop-k : goal.decreases-loop-k
-decreases-loop-k l = 16 - l.k
+invariant-loop-k l = Rows (λ s. s.cells) 640 no_seat l.seats l.initial.bytes cells_at l.k l.bytes

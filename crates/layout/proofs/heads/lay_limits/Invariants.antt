@@ -7,8 +7,5 @@ use Rattle.layout.proofs.heads.lay_limits.Given as goal
 
 abbrev pub invariant-loop-k : goal.invariant-loop-k
 invariant-loop-k l =
-    (l.k ≤ 16) × Column (λ s. s.switch.setup.limit) no_seat l.seats l.initial.bytes limits_at l.k l.bytes × Column (λ s. s.switch.setup.host) no_seat l.seats l.initial.masks host_masks_at l.k l.masks
+    Column (λ s. s.switch.setup.limit) no_seat l.seats l.initial.bytes limits_at l.k l.bytes × Column (λ s. s.switch.setup.host) no_seat l.seats l.initial.masks host_masks_at l.k l.masks
     × Column (λ s. s.switch.nonce) no_seat l.seats l.initial.words nonces_at l.k l.words
-
-abbrev pub decreases-loop-k : goal.decreases-loop-k
-decreases-loop-k l = 16 - l.k

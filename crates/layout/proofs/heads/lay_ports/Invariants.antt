@@ -7,8 +7,5 @@ use Rattle.layout.proofs.heads.lay_ports.Given as goal
 
 abbrev pub invariant-loop-k : goal.invariant-loop-k
 invariant-loop-k l =
-    (l.k ≤ 16) × Column (λ s. s.switch.setup.ports) no_seat l.seats l.initial.bytes ports_at l.k l.bytes × Column (λ s. s.switch.setup.live) no_seat l.seats l.initial.masks 0 l.k l.masks
+    Column (λ s. s.switch.setup.ports) no_seat l.seats l.initial.bytes ports_at l.k l.bytes × Column (λ s. s.switch.setup.live) no_seat l.seats l.initial.masks 0 l.k l.masks
     × Column (λ s. s.switch.setup.salt) no_seat l.seats l.initial.words 0 l.k l.words
-
-abbrev pub decreases-loop-k : goal.decreases-loop-k
-decreases-loop-k l = 16 - l.k

@@ -11,7 +11,7 @@ returns c =
     let r = c.lay_slots.ensures in
     let s = c.lay_hops.ensures in
     let t = c.lay_cells.ensures in
-    let sized : SizedSeats c.args.seats = record { long = p.long; addresses = r.addresses; ports = r.ports; hops = s.hops; cells = t.cells } in
+    let sized : SizedSeats c.args.seats.now = record { long = p.long; addresses = r.addresses; ports = r.ports; hops = s.hops; cells = t.cells } in
     record {
       bytes = seat_bytes_laid sized c.args.bytes.now c.requires.bytes p.bytes q.bytes r.bytes s.bytes t.bytes;
       masks = columns_laid sized c.args.masks.now (λ s. s.switch.setup.live) (λ s. s.switch.setup.host) c.requires.masks p.masks q.masks;

@@ -6,7 +6,4 @@ use Rattle.layout.proofs.Loops.{Rows}
 use Rattle.layout.proofs.heads.lay_slots.Given as goal
 
 abbrev pub invariant-loop-k : goal.invariant-loop-k
-invariant-loop-k l = (l.k ≤ 16) × Rows (λ s. s.switch.table.ports) 64 no_seat l.seats l.initial.bytes slot_ports_at l.k l.bytes × Rows (λ s. s.switch.table.addresses) 64 no_seat l.seats l.initial.wides 0 l.k l.wides
-
-abbrev pub decreases-loop-k : goal.decreases-loop-k
-decreases-loop-k l = 16 - l.k
+invariant-loop-k l = Rows (λ s. s.switch.table.ports) 64 no_seat l.seats l.initial.bytes slot_ports_at l.k l.bytes × Rows (λ s. s.switch.table.addresses) 64 no_seat l.seats l.initial.wides 0 l.k l.wides

@@ -1,13 +1,9 @@
-use Prim.Native.Nat.{◌-◌}
-use native.Mathlib.Omega.{arith}
-use Rattle.layout.proofs.Loops.{filled_starts, filled_next, filled_ends}
+-- Head after head is read.
+use borrow.Author.Rules.{rules}
+use Rattle.std.proofs.Common.{tests}
+use Rattle.layout.specs.Layout.{seat_in}
+use Rattle.layout.proofs.Loops.{made}
 use Rattle.layout.proofs.heads.seats_of.Goals as goal
 
-pub loop-k-init : goal.loop-k-init
-loop-k-init c = (omega arith, filled_starts)
-
-pub loop-k-preserved : goal.loop-k-preserved
-loop-k-preserved c = (omega arith, filled_next c.loop-k.invariant.1 (omega arith) c.seat_of-seat.ensures)
-
 pub returns : goal.returns
-returns c = filled_ends c.loop-k.invariant.1 (omega arith) (omega arith)
+returns c = made _ (seat_in c.args.bytes.now c.args.masks.now c.args.words.now c.args.wides.now) c.from_fn.ensures.items (λ k y q h call. search (rules, tests))

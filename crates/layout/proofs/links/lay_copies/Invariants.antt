@@ -7,7 +7,4 @@ use Rattle.layout.proofs.Loops.{Rows}
 use Rattle.layout.proofs.links.lay_copies.Given as goal
 
 abbrev pub invariant-loop-i : goal.invariant-loop-i
-invariant-loop-i l = (l.i ≤ 512) × Rows pack 3 no_copy l.copies l.initial.wides copies_at l.i l.wides × ((k : ℕ) → k < l.i → Ranged (get_or l.copies k no_copy))
-
-abbrev pub decreases-loop-i : goal.decreases-loop-i
-decreases-loop-i l = 512 - l.i
+invariant-loop-i l = Rows pack 3 no_copy l.copies l.initial.wides copies_at l.i l.wides × ((k : ℕ) → k < l.i → Ranged (get_or l.copies k no_copy))

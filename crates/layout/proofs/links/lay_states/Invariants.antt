@@ -6,7 +6,4 @@ use Rattle.frame.specs.Header.{bit}
 use Rattle.layout.proofs.links.lay_states.Given as goal
 
 abbrev pub invariant-loop-i : goal.invariant-loop-i
-invariant-loop-i l = (l.i ≤ 64) × Column bit false l.up l.initial.bytes 0 l.i l.bytes
-
-abbrev pub decreases-loop-i : goal.decreases-loop-i
-decreases-loop-i l = 64 - l.i
+invariant-loop-i l = Column bit false l.up l.initial.bytes 0 l.i l.bytes
