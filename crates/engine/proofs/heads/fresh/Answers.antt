@@ -14,7 +14,7 @@ returns-in_err-when-clause-refused c =
 pub returns-in_err-check-clause-refused : goal.returns-in_err-check-clause-refused
 returns-in_err-check-clause-refused c =
     let p = err_from_is_err_and c.from_residual-in_err-check.result c.from_residual-in_err-check.ensures.1 in
-    rw (p.1, p.2) (tested _ _ c.empty.ensures (ltb-false _ _ c.in_ok-when.ensures.passed) c.in_err-check.ensures)
+    rw (p.1, p.2) (tested _ _ c.empty.ensures (ltb-false _ _ c.in_ok-when.ensures.passed) c.in_err-check.ensures.refused)
 
 pub returns-clause-refused : goal.returns-clause-refused
-returns-clause-refused c = tested _ _ c.empty.ensures (ltb-false _ _ c.in_ok-when.ensures.passed) c.in_ok-check.ensures
+returns-clause-refused c = tested _ _ c.empty.ensures (ltb-false _ _ c.in_ok-when.ensures.passed) c.in_ok-check.ensures.refused
