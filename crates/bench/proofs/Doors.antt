@@ -1,10 +1,8 @@
 -- A fresh bench and the test of shape have one outcome.
 use mathlib.Core.Path.{◌≡◌, sym, ap, ◌∙◌}
 use mathlib.Core.Bool.{Bool}
-use Rattle.std.specs.Prelude.{Result, Ok, Err}
+use Rattle.std.specs.Prelude.{Ok, Err}
 use Rattle.refusal.specs.OneOutcome.{OneOutcome}
-use Rattle.refusal.specs.Number.{number_of, refused_as}
-use Rattle.refusal.specs.declared.Refusal.{Refusal}
 use Rattle.refusal.proofs.Outcomes.{one_outcome, plain}
 use Rattle.refusal.proofs.Told.{refused_apart}
 use Rattle.network.specs.declared.Network.{Network}

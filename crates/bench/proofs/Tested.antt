@@ -26,7 +26,7 @@ use Rattle.table.specs.Table as table
 use Rattle.network.specs.declared.Network.{Network}
 use Rattle.network.specs.Checks.{network_fault}
 use Rattle.rules.specs.declared.Setup.{Setup}
-use Rattle.head.specs.Switch.{WellFormed, switch_causes}
+use Rattle.head.specs.Switch.{switch_causes}
 use Rattle.cabling.specs.Cabling.{plugs_of, setup_of}
 use Rattle.seat.specs.declared.Seat.{Seat}
 use Rattle.seat.proofs.Laws.{formed_passes, refusal_formed}

@@ -1,5 +1,4 @@
 -- `happens` is called on the counters as they are lent, and what it answers is stored: the counters behind the reference, the rest as the result.
-use mathlib.Core.Path.{sym, ap, ◌∙◌}
 use Rattle.std.proofs.lemmas.Result.{err_from_is_err_and}
 use Rattle.counters.proofs.Telling.{promised}
 use Rattle.counters.proofs.event.Goals as goal

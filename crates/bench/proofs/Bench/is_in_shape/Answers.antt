@@ -1,6 +1,6 @@
 -- The definition's tests in their order; the first that fails decides. What the heads' test found is handed on.
 use mathlib.Core.Path.{◌≡◌}
-use mathlib.Core.Bool.{◌&&◌, false≢true}
+use mathlib.Core.Bool.{◌&&◌}
 use lib.Dec.{leb}
 use lib.ListN.{length}
 use borrow.Author.Rules.{rules}
