@@ -11,13 +11,6 @@ ghost use Rattle.std.specs.Prelude.{◌≡◌, ◌<◌, ◌^◌, min, length};
 ghost use Rattle.wire.specs.Wire.{number, part, put_in};
 ghost use Rattle.wire.specs.Address.{is_source};
 
-// A byte as a wider number: asks the caller only for the index, not for the byte's range.
-pub fn wide(b: u8) -> u64
-    ensures { (result ≡ b) × (result < 256) }
-{
-    b as u64
-}
-
 // The number that `width` bytes from a place on write; a u64 has room for eight.
 pub fn number_at(bytes: &[u8], at: usize, width: usize) -> u64
     ensures value { result ≡ number (part at (min width 8) bytes.now) }
