@@ -18,7 +18,6 @@ use Rattle.refusal.specs.Exact.{Numbered, NoneHolds}
 use Rattle.refusal.proofs.Laws.{none_holds, inside, first_front, first_behind_none}
 use Rattle.wire.specs.Address.{is_source}
 use Rattle.frame.specs.Frame.{source_of}
-use Rattle.rules.specs.Mask.{names}
 use Rattle.head.specs.Switch.{switch_causes}
 use Rattle.rules.specs.Rules.{on_host_port}
 use Rattle.head.specs.Step.{bad_length, too_short, HasRoom, frame_causes, refusal, refusal_but1}
@@ -53,9 +52,6 @@ module _ (s : Setup) (port : ℕ) (frame : List ℕ) (room : ℕ) (none : refusa
 
   pub passed_port : port < s.ports
   passed_port = leb-false s.ports port passed.0
-
-  pub passed_live : names s.live port ≡ true
-  passed_live = not-false (names s.live port) passed.1.0
 
   pub passed_source : is_source (source_of frame) ≡ true
   passed_source = not-false (is_source (source_of frame)) passed.1.1.1.0
