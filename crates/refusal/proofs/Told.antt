@@ -36,7 +36,7 @@ use Rattle.refusal.specs.declared.Refusal.TheVariants.{
   ToNobody,
   NoSuchCopy,
   NoSuchLink,
-  TooManyEvents
+  TooManyEvents,
 }
 
 -- the refusal that has a number

@@ -26,7 +26,7 @@ use Rattle.refusal.specs.declared.Refusal.TheVariants.{
   ToNobody,
   NoSuchCopy,
   NoSuchLink,
-  TooManyEvents
+  TooManyEvents,
 }
 
 abbrev pub number_of : Refusal → ℕ

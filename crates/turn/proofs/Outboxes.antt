@@ -99,4 +99,3 @@ module _ {plug : ℕ → Plug} {a : Arrival} {mask : ℕ} {h : Header} {whole : 
       by_left : (left : ℕ) → port + left ≡ most_ports → send_from plug a mask h left port (outbox (copies_in s.flying words) s) ≡ whole → outbox (copies_in s.flying words) s ≡ whole
       by_left zero count so_far = so_far
       by_left (suc left) count so_far = absurd (omega arith)
-

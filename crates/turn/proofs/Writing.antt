@@ -70,4 +70,3 @@ laid_without {n} {m} {place} {before} {between} {after} less h taken v =
     let long = length-take-le n before h in
     let count : n - 1 ≡ length (without place (take n before)) = omega (arith, one_fewer place (take n before) (omega arith)) in
     subst (λ ws. Written (length (without place (take n before))) ws m after) taken.words (subst (λ k. Written k between m after) count v)
-
