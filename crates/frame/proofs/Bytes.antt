@@ -12,7 +12,7 @@ use lib.ListN.{length, get_or, take, drop, length-append, length-drop, length-ta
 use lib.Seq.{take_all}
 use mir.Val.{bool_byte}
 use Rattle.wire.specs.Wire.{number, part, put_in, bytes_of}
-use Rattle.wire.proofs.Laws.{number_one, put_fits, put_next}
+use Rattle.wire.proofs.Laws.{put_fits, put_next}
 use Rattle.frame.specs.Header.{bit, header_of, header_bytes}
 use Rattle.frame.specs.Frame.{our_type, at_start, has_room, tag_into, stripped}
 use Rattle.frame.specs.declared.Header.{Header}

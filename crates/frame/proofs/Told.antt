@@ -8,7 +8,6 @@ use Rattle.refusal.specs.OneOutcome.{TellsApart}
 use Rattle.frame.specs.Header.{bit, header_values}
 use Rattle.frame.specs.Frame.{host_values}
 use Rattle.frame.specs.declared.Header.{Header}
-use Rattle.frame.specs.declared.Host.{Host}
 use Rattle.frame.proofs.RoundTrip.{bit_back}
 
 -- so do a flag's number, and a header's

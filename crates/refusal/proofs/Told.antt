@@ -69,57 +69,11 @@ refusal_of n =
 
 back : (r : Refusal) → refusal_of (number_of r) ≡ r
 unfolding refusal_of
-back IllFormed = refl
-back NoSuchPort = refl
-back PortDown = refl
-back BadLength = refl
-back BadSource = refl
-back TaggedInside = refl
-back NotTagged = refl
-back NoHops = refl
-back NoRoom = refl
-back HeaderTooLarge = refl
-back BadRecord = refl
-back NoVersion = refl
-back OutOfRange = refl
-back PortTaken = refl
-back BadAddress = refl
-back TooMany = refl
-back OutOfOrder = refl
-back NoRoomToWrite = refl
-back OutOfShape = refl
-back NoSuchHost = refl
-back ToNobody = refl
-back NoSuchCopy = refl
-back NoSuchLink = refl
-back TooManyEvents = refl
+back r = grind arith
 
 -- and none has the number 0
 pub some : (r : Refusal) → number_of r ≡ 0 → ⊥
-some IllFormed e = omega arith
-some NoSuchPort e = omega arith
-some PortDown e = omega arith
-some BadLength e = omega arith
-some BadSource e = omega arith
-some TaggedInside e = omega arith
-some NotTagged e = omega arith
-some NoHops e = omega arith
-some NoRoom e = omega arith
-some HeaderTooLarge e = omega arith
-some BadRecord e = omega arith
-some NoVersion e = omega arith
-some OutOfRange e = omega arith
-some PortTaken e = omega arith
-some BadAddress e = omega arith
-some TooMany e = omega arith
-some OutOfOrder e = omega arith
-some NoRoomToWrite e = omega arith
-some OutOfShape e = omega arith
-some NoSuchHost e = omega arith
-some ToNobody e = omega arith
-some NoSuchCopy e = omega arith
-some NoSuchLink e = omega arith
-some TooManyEvents e = omega arith
+some r e = grind arith
 
 -- each refusal has a number of its own
 pub number_apart : TellsApart number_of
