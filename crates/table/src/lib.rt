@@ -84,7 +84,7 @@ impl Table {
     }
 
     // Whether it can be the table of a switch of n ports. Each address sets its mark as its slot is passed, and only one that finds its mark
-    // set is searched for: few searches instead of 64.
+    // set is searched for: few searches instead of 64. By index, since a slot is a place of three arrays.
     pub fn is_well_formed(&self, n: u8) -> bool
         ensures test { result ≡ well_formed n self.now }
         ensures sized { Sized self.now }

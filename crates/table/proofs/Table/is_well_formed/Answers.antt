@@ -8,14 +8,14 @@ pub loop-i-init : goal.loop-i-init
 loop-i-init c = pass_start _ _ _ (search rules)
 
 pub slot_fits-requires : goal.slot_fits-requires
-slot_fits-requires c = (search rules, unmarked c.loop-i.invariant c.loop-i-test.true _ c.mark_of-mark.ensures.mark (search rules))
+slot_fits-requires c = (search rules, unmarked c.loop-i.invariant (omega arith) _ c.mark_of-mark.ensures.mark (search rules))
 
 pub returns-then-not-slot_fits : goal.returns-then-not-slot_fits
 returns-then-not-slot_fits c =
-    record { test = pass_fails c.loop-i.invariant c.loop-i-test.true (sym c.slot_fits.ensures ∙ c.if-not-slot_fits.true); sized = search rules }
+    record { test = pass_fails c.loop-i.invariant (omega arith) (sym c.slot_fits.ensures ∙ c.if-not-slot_fits.true); sized = search rules }
 
 pub loop-i-preserved : goal.loop-i-preserved
-loop-i-preserved c = pass_next c.loop-i.invariant c.loop-i-test.true _ c.mark_of-mark.ensures.mark c.mark_of-mark.ensures.within (sym c.slot_fits.ensures ∙ c.if-not-slot_fits.false)
+loop-i-preserved c = pass_next c.loop-i.invariant (omega arith) _ c.mark_of-mark.ensures.mark c.mark_of-mark.ensures.within (sym c.slot_fits.ensures ∙ c.if-not-slot_fits.false)
 
 pub returns : goal.returns
 returns c = record { test = pass_end c.loop-i.invariant (omega arith); sized = search rules }
