@@ -7,32 +7,32 @@ use native.Mathlib.Omega.{arith}
 use lib.Dec.{eqb}
 use lib.ListN.{length}
 use borrow.Author.Tests.{eqb-true}
-use Rattle.refusal.specs.Refusal.{leaves}
+use Rattle.std.specs.Prelude.{Result, Ok, Err}
+use Rattle.refusal.specs.Refusal.{Told, answered, leaves}
+use Rattle.refusal.specs.Number.{number_of}
+use Rattle.refusal.specs.Number as refusal
+use Rattle.refusal.specs.declared.Refusal.{Refusal}
+use Rattle.refusal.specs.declared.Refusal.TheVariants.{BadRecord}
+use Rattle.refusal.proofs.Told.{refused_apart}
 use Rattle.refusal.proofs.Laws.{accepted_leaves, refused_leaves}
 use Rattle.network.specs.declared.Network.{Network}
-use Rattle.network.specs.Network.{empty_network}
 use Rattle.network.specs.Checks.{network_fault}
 use Rattle.event.specs.declared.Event.{Event}
 use Rattle.event.specs.declared.Event.TheVariants.{Present, Take, Link}
-use Rattle.event.specs.declared.Answer.{Answer as Read}
-use Rattle.event.specs.declared.Answer.TheVariants.{Refused as Bad, Got}
-use Rattle.event.specs.Event.{bad_event, event_in, read_answer, read_event, told_answer}
+use Rattle.event.specs.Event.{bad_event, event_in, event_values, read_answer, read_event}
 use Rattle.event.proofs.Laws.{answer_is}
-use Rattle.turn.specs.declared.Answer.{Answer}
-use Rattle.turn.specs.declared.Answer.TheVariants.{Refused}
-use Rattle.turn.specs.Turn.{Answers, refusal_of}
+use Rattle.turn.specs.declared.Done.{Done}
+use Rattle.turn.specs.Turn.{Answer, Answers, answer_values, told}
+use Rattle.turn.proofs.Laws.{told_apart}
 use Rattle.bench.specs.declared.Bench.{Bench}
-use Rattle.bench.specs.declared.Made.{Made}
-use Rattle.bench.specs.declared.Made.TheVariants.{Refused as Unmade, Ready}
-use Rattle.bench.specs.Bench.{Freshens, fresh_bench}
+use Rattle.bench.specs.Bench.{fresh_bench}
 use Rattle.bench.specs.Events.{event_of}
 use Rattle.bench.proofs.Laws.{event_accepts}
 use Rattle.counters.specs.declared.Counters.{Counters}
-use Rattle.counters.specs.declared.Counted.{Counted}
 use Rattle.counters.specs.Counters.{counted}
-use Rattle.counters.specs.Event.{event_refusal, happens_of}
+use Rattle.counters.specs.Event.{Happens, event_refusal}
 use Rattle.layout.specs.Layout.{HoldsBench, LaidBench, bench_bytes, bench_fits, bench_in, bench_wides, seat_masks, seat_words}
-use Rattle.engine.proofs.Telling.{tells_number}
+use Rattle.engine.proofs.Telling.{tells, tells_number}
 use Rattle.engine_bench.specs.Bench.{BenchLent, FreshensBench, HappensLent, counter_size, counter_values, event_fits, event_numbers, event_size, fresh_refusal, happen_refusal}
 
 -- ---- Lengths
@@ -73,17 +73,20 @@ module _ {r : ℕ} {x : Bench} {b m w v : List ℕ} where
 
 -- ---- Fresh
 
-module _ {n : Network} {made : Made} {x : Bench} {b m w v : List ℕ} (fresh : Freshens n made x) where
-  pub freshen_refused : {k : ℕ} → made ≡ Unmade k → FreshensBench (network_fault n) n b m w v k b m w v
-  freshen_refused {k} e =
-      let number : k ≡ network_fault n = tells_number k (network_fault n) [] [] (rw e at fresh.made) in
-      let some : k ≡ 0 → ⊥ = λ z. (let r = fresh.ready (sym number ∙ z) in let c : ◌≡◌ {A = ℕ} 0 1 = cc in omega arith) in
-      record { number = number; bench = bench_kept number some }
+-- a refusal's number is not 0, which is none's
+some : (r : Refusal) → number_of r ≡ 0 → ⊥
+some r e = other (refused_apart r (Ok tt) (sym e))
+  where
+    other : ◌≡◌ {A = Result (Unit {0}) Refusal} (Ok tt) (Err r) → ⊥
+    other p = let z : ◌≡◌ {A = ℕ} 0 1 = cc in omega arith
 
-  pub freshen_done : {b' m' w' v' : List ℕ} → made ≡ Ready → LaidBench x b' m' w' v' → FreshensBench (network_fault n) n b m w v 0 b' m' w' v'
-  freshen_done e laid =
-      let none : 0 ≡ network_fault n = tells_number 0 (network_fault n) [] [] (rw e at fresh.made) in
-      record { number = none; bench = bench_laid none (fresh.bench ∙ ap fresh_bench (sym (accepted_leaves none refl empty_network n))) laid }
+module _ {n : Network} {b m w v : List ℕ} where
+  pub freshen_refused : (r : Refusal) → number_of r ≡ network_fault n → FreshensBench (network_fault n) n b m w v (number_of r) b m w v
+  freshen_refused r e = record { number = e; bench = bench_kept e (some r) }
+
+  pub freshen_done : {x : Bench} {b' m' w' v' : List ℕ} → 0 ≡ network_fault n → x ≡ fresh_bench n → LaidBench x b' m' w' v'
+      → FreshensBench (network_fault n) n b m w v 0 b' m' w' v'
+  freshen_done none e laid = record { number = none; bench = bench_laid none e laid }
 
 module _ {p : Bool} (q : Bool) {n : Network} {b m w v : List ℕ} where
   pub fresh_no_network : p ≡ false → FreshensBench (fresh_refusal p q n) n b m w v 20 b m w v
@@ -105,46 +108,33 @@ fresh_of {b = b} {m} {w} {v} {b'} {m'} {w'} {v'} {r} q h = subst (λ (k : Networ
 
 -- ---- Event
 
+-- what reading an event tells
+abbrev told_event : Result Event Refusal → Told
+told_event a = refusal.told event_values a
+
 -- an accepted event's answer is no refusal
-answered_by : (e : Event) (a : Answer) → Answers e a → refusal_of a ≡ 0
-answered_by (Present p) a (r, q) = rw q
-answered_by (Take place) a (r, q) = rw q
-answered_by (Link s) a (cut, q) = rw q
+told_done : (e : Event) (a : Answer) → Answers e a → told a ≡ tells 0 (answer_values a)
+told_done (Present p) a (r, q) = rw q
+told_done (Take place) a (r, q) = rw q
+told_done (Link s) a (cut, q) = rw q
 
-told_refusal : (k : ℕ) (e : Event) (a : Answer) → Answers e a → refusal_of (leaves k (Refused k) a) ≡ k
-told_refusal zero e a h = answered_by e a h
-told_refusal (suc k) e a h = refl
+module _ {x : Bench} {e : Event} {c : Counters} {b m w v cs ns : List ℕ} where
+  pub happen_refused : (r : Refusal) {x' : Bench} {c' : Counters} → Happens x c e (Err r) x' c' → HappensLent (event_refusal x c e) x e c b m w v cs ns (number_of r) b m w v cs ns
+  happen_refused r h =
+      let number : number_of r ≡ event_refusal x c e = tells_number (number_of r) (event_refusal x c e) _ [] h.answer in
+      record { number = number; bench = bench_kept number (some r); counters = refused_leaves number (some r) _ _; report = refused_leaves number (some r) _ _ }
 
-number_of : (x : Bench) (e : Event) (c : Counters) {t : Counted} {r : ℕ} → t ≡ happens_of x e c → r ≡ refusal_of t.happened.answer → r ≡ event_refusal x c e
-unfolding happens_of
-number_of x e c is told = told ∙ rw is (told_refusal (event_refusal x c e) e (event_of x e).answer (event_accepts x e))
-
--- what an event that is not refused leaves
-record Accepts (x : Bench) (e : Event) (c : Counters) (t : Counted) : Type 0 where
-  pub bench : t.happened.bench ≡ (event_of x e).bench
-  pub answer : t.happened.answer ≡ (event_of x e).answer
-  pub counters : t.counters ≡ counted c e (event_of x e).answer
-
-accepts : (x : Bench) (e : Event) (c : Counters) {t : Counted} → 0 ≡ event_refusal x c e → t ≡ happens_of x e c → Accepts x e c t
-unfolding happens_of
-accepts x e c none is = rw (is, ← none) (record { bench = refl; answer = refl; counters = refl })
-
-module _ {x : Bench} {e : Event} {c : Counters} {b m w v cs ns : List ℕ} {t : Counted} {r : ℕ} (is : t ≡ happens_of x e c) (told : r ≡ refusal_of t.happened.answer) where
-  pub happen_refused : (r ≡ 0 → ⊥) → HappensLent (event_refusal x c e) x e c b m w v cs ns r b m w v cs ns
-  happen_refused some =
-      let number = number_of x e c is told in
-      record { number = number; bench = bench_kept number some; counters = refused_leaves number some _ _; report = refused_leaves number some _ _ }
-
-  pub happen_done : {b' m' w' v' cs' ns' : List ℕ} → r ≡ 0 → LaidBench t.happened.bench b' m' w' v' → cs' ≡ counter_values t.counters → ns' ≡ event_numbers t.happened.answer
-      → HappensLent (event_refusal x c e) x e c b m w v cs ns 0 b' m' w' v' cs' ns'
-  happen_done z laid counts numbers =
-      let none : 0 ≡ event_refusal x c e = sym z ∙ number_of x e c is told in
-      let did = accepts x e c none is in
+  pub happen_done : {done : Done} {x' : Bench} {c' : Counters} {b' m' w' v' cs' ns' : List ℕ} → Happens x c e (Ok done) x' c' → LaidBench x' b' m' w' v'
+      → cs' ≡ counter_values c' → ns' ≡ event_numbers (Ok done) → HappensLent (event_refusal x c e) x e c b m w v cs ns 0 b' m' w' v' cs' ns'
+  happen_done {done} h laid counts numbers =
+      let answer = (event_of x e).answer in
+      let none : 0 ≡ event_refusal x c e = tells_number 0 (event_refusal x c e) (answer_values answer) (answer_values (Ok done)) h.answer in
+      let did : Ok done ≡ answer = told_apart (Ok done) answer (h.answer ∙ ap (λ k. answered k (answer_values answer)) (sym none) ∙ sym (told_done e answer (event_accepts x e))) in
       record {
         number = none;
-        bench = bench_laid none did.bench laid;
-        counters = counts ∙ ap counter_values did.counters ∙ accepted_leaves none refl cs _;
-        report = numbers ∙ ap event_numbers did.answer ∙ accepted_leaves none refl ns _;
+        bench = bench_laid none (h.bench ∙ sym (accepted_leaves none refl x _)) laid;
+        counters = counts ∙ ap counter_values (h.counters ∙ sym (accepted_leaves none refl c _)) ∙ accepted_leaves none refl cs _;
+        report = numbers ∙ ap event_numbers did ∙ accepted_leaves none refl ns _;
       }
 
 -- a refused call leaves everything as it was
@@ -162,29 +152,27 @@ module _ {x : Bench} {c : Counters} {b m w v cs ns : List ℕ} (input : List ℕ
     unfolding happen_refusal
     event_no_bench f = rw (e, f) (untouched 27)
 
-    module _ {a : Read} (f : q ≡ true) (told : told_answer a ≡ read_answer input) where
-      pub event_bad : {k : ℕ} → a ≡ Bad k → HappensLent (happen_refusal p q x c input) x (event_in input) c b m w v cs ns k b m w v cs ns
+    module _ {a : Result Event Refusal} (f : q ≡ true) (is : told_event a ≡ read_answer input) where
+      pub event_bad : (k : Refusal) → a ≡ Err k → HappensLent (happen_refusal p q x c input) x (event_in input) c b m w v cs ns (number_of k) b m w v cs ns
       unfolding happen_refusal read_event
-      event_bad {k} g = rw (e, f) (by_test (bad_event input) (sym g ∙ answer_is a input told))
+      event_bad k g = rw (e, f) (by_test (bad_event input) (sym g ∙ answer_is a input is))
         where
-          by_test : (t : Bool) → Bad k ≡ cond t (Bad 20) (Got (event_in input)) → HappensLent (cond t 20 (event_refusal x c (event_in input))) x (event_in input) c b m w v cs ns k b m w v cs ns
-          by_test true h = let twenty : k ≡ 20 = cc in rw twenty (untouched 19)
+          by_test : (t : Bool) → Err k ≡ cond t (Err BadRecord) (Ok (event_in input))
+              → HappensLent (cond t 20 (event_refusal x c (event_in input))) x (event_in input) c b m w v cs ns (number_of k) b m w v cs ns
+          by_test true h = let twenty : k ≡ BadRecord = cc in rw twenty (untouched 19)
           by_test false h = let z : ◌≡◌ {A = ℕ} 0 1 = cc in absurd (omega arith)
 
-      pub event_inside : {i : Event} {r : ℕ} {b' m' w' v' cs' ns' : List ℕ} → a ≡ Got i → HappensLent (event_refusal x c i) x i c b m w v cs ns r b' m' w' v' cs' ns'
+      pub event_inside : {i : Event} {r : ℕ} {b' m' w' v' cs' ns' : List ℕ} → a ≡ Ok i → HappensLent (event_refusal x c i) x i c b m w v cs ns r b' m' w' v' cs' ns'
           → HappensLent (happen_refusal p q x c input) x (event_in input) c b m w v cs ns r b' m' w' v' cs' ns'
       unfolding happen_refusal read_event
-      event_inside {i} {r} {b'} {m'} {w'} {v'} {cs'} {ns'} g h = rw (e, f) (by_test (bad_event input) (sym g ∙ answer_is a input told))
+      event_inside {i} {r} {b'} {m'} {w'} {v'} {cs'} {ns'} g h = rw (e, f) (by_test (bad_event input) (sym g ∙ answer_is a input is))
         where
-          by_test : (t : Bool) → Got i ≡ cond t (Bad 20) (Got (event_in input))
+          by_test : (t : Bool) → Ok i ≡ cond t (Err BadRecord) (Ok (event_in input))
               → HappensLent (cond t 20 (event_refusal x c (event_in input))) x (event_in input) c b m w v cs ns r b' m' w' v' cs' ns'
           by_test true d = let z : ◌≡◌ {A = ℕ} 0 1 = cc in absurd (omega arith)
           by_test false d = let same : i ≡ event_in input = cc in rw same at h
 
--- what was read out of the arrays: counters and bench, and their network
-pub happens_is : {x₀ x : Bench} {c₀ c : Counters} (e : Event) {t : Counted} → t ≡ happens_of x₀ e c₀ → x₀ ≡ x → c₀ ≡ c → t ≡ happens_of x e c
-happens_is e is p q = is ∙ (λ i. happens_of (p i) e (q i))
-
+-- the network that was read out of its arrays
 pub event_of_lem : {n₀ n : Network} {c : Counters} {i : Event} {b m w v cs ns b' m' w' v' cs' ns' : List ℕ} {r : ℕ} → n₀ ≡ n
     → HappensLent (event_refusal (bench_in n₀ b m w v) c i) (bench_in n₀ b m w v) i c b m w v cs ns r b' m' w' v' cs' ns'
     → HappensLent (event_refusal (bench_in n b m w v) c i) (bench_in n b m w v) i c b m w v cs ns r b' m' w' v' cs' ns'

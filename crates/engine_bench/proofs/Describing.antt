@@ -11,9 +11,7 @@ use Rattle.refusal.specs.Refusal.{answered, leaves}
 use Rattle.refusal.proofs.Laws.{accepted_leaves}
 use Rattle.wire.specs.Wire.{put}
 use Rattle.network.specs.declared.Network.{Network}
-use Rattle.network.specs.declared.Answer.{Answer}
-use Rattle.network.specs.declared.Answer.TheVariants.{Refused, Ends}
-use Rattle.network.specs.Describe.{image, read_end, read_fault, read_network, told, write_fault, written}
+use Rattle.network.specs.Describe.{image, read_end, read_fault, read_network, write_fault, written}
 use Rattle.layout.specs.Layout.{HoldsNetwork, LaidNetwork, network_addresses, network_bytes, network_fits, network_salts}
 use Rattle.engine_bench.specs.Networks.{ReadsLent, WritesLent, read_refusal, write_refusal}
 use Rattle.engine.proofs.Telling.{tells, tells_kept, tells_number, tells_one}
@@ -23,15 +21,6 @@ fits_network b s a e =
     let first = (and-eq-true_iff (eqb (length b) 355 && eqb (length s) 16) (eqb (length a) 32)).0 e in
     let second = (and-eq-true_iff (eqb (length b) 355) (eqb (length s) 16)).0 first.0 in
     record { bytes = eqb-true _ _ second.0; salts = eqb-true _ _ second.1; addresses = eqb-true _ _ first.1 }
-
--- the number and the place of each case
-told_refused : {a : Answer} {m : ℕ} (n : ℕ) (vs : List ℕ) → told a ≡ answered n vs → a ≡ Refused m → tells m [] ≡ answered n vs
-unfolding told
-told_refused n vs t e = rw e at t
-
-told_ends : {a : Answer} {m : ℕ} (n : ℕ) (vs : List ℕ) → told a ≡ answered n vs → a ≡ Ends m → tells 0 (m ∷ []) ≡ answered n vs
-unfolding told
-told_ends n vs t e = rw e at t
 
 -- written is what was there where the writer refuses
 written_leaves : (n : Network) (out : List ℕ) → written n out ≡ leaves (write_fault n (length out)) out (written n out)
@@ -48,13 +37,12 @@ module _ {fits : Bool} {input b s a : List ℕ} {end : ℕ} where
   unfolding read_refusal
   read_unsized e = rw e (record { number = refl; bytes = refl; salts = refl; addresses = refl; ends = refl })
 
-  pub read_refused : {x : Answer} {m : ℕ} → fits ≡ true
-      → told x ≡ answered (read_fault input) (read_end input ∷ []) → x ≡ Refused m
+  pub read_refused : {m : ℕ} → fits ≡ true
+      → tells m [] ≡ answered (read_fault input) (read_end input ∷ [])
       → ReadsLent (read_refusal fits input) input b s a end m b s a end
   unfolding read_refusal
-  read_refused {m = m} e t q =
+  read_refused {m = m} e n =
       let vs : List ℕ = read_end input ∷ [] in
-      let n = told_refused (read_fault input) vs t q in
       rw e (record {
         number = tells_number m (read_fault input) vs [] n;
         bytes = tells_kept m (read_fault input) vs b _ (omega arith) n;
@@ -63,12 +51,11 @@ module _ {fits : Bool} {input b s a : List ℕ} {end : ℕ} where
         ends = tells_kept m (read_fault input) vs end _ (omega arith) n;
       })
 
-  pub read_done : {x : Answer} {at : ℕ} {n : Network} {b' s' a' : List ℕ} → fits ≡ true
-      → told x ≡ answered (read_fault input) (read_end input ∷ []) → x ≡ Ends at → n ≡ read_network input → LaidNetwork n b' s' a'
+  pub read_done : {at : ℕ} {n : Network} {b' s' a' : List ℕ} → fits ≡ true
+      → tells 0 (at ∷ []) ≡ answered (read_fault input) (read_end input ∷ []) → n ≡ read_network input → LaidNetwork n b' s' a'
       → ReadsLent (read_refusal fits input) input b s a end 0 b' s' a' at
   unfolding read_refusal
-  read_done {at = at} e t q n laid =
-      let z = told_ends (read_fault input) (read_end input ∷ []) t q in
+  read_done {at = at} e z n laid =
       let none : 0 ≡ read_fault input = tells_number 0 (read_fault input) (read_end input ∷ []) (at ∷ []) z in
       rw e (record {
         number = none;
@@ -84,24 +71,22 @@ module _ {fits : Bool} {n : Network} {out : List ℕ} {long : ℕ} where
   unfolding write_refusal
   write_unsized e = rw e (record { number = refl; output = refl; told = refl })
 
-  module _ {x : Answer} {out' : List ℕ} (e : fits ≡ true) (t : told x ≡ answered (write_fault n (length out)) (length (image n) ∷ [])) (o : out' ≡ written n out) where
-    pub write_refused : {m : ℕ} → x ≡ Refused m
+  module _ {out' : List ℕ} (e : fits ≡ true) (o : out' ≡ written n out) where
+    pub write_refused : {m : ℕ} → tells m [] ≡ answered (write_fault n (length out)) (length (image n) ∷ [])
         → WritesLent (write_refusal fits n (length out)) n out long m out' long
     unfolding write_refusal
-    write_refused {m} q =
+    write_refused {m} z =
         let vs : List ℕ = length (image n) ∷ [] in
-        let z = told_refused (write_fault n (length out)) vs t q in
         rw e (record {
           number = tells_number m (write_fault n (length out)) vs [] z;
           output = o ∙ written_leaves n out;
           told = tells_kept m (write_fault n (length out)) vs long _ (omega arith) z;
         })
 
-    pub write_done : {at : ℕ} → x ≡ Ends at
+    pub write_done : {at : ℕ} → tells 0 (at ∷ []) ≡ answered (write_fault n (length out)) (length (image n) ∷ [])
         → WritesLent (write_refusal fits n (length out)) n out long 0 out' at
     unfolding write_refusal
-    write_done {at} q =
-        let z = told_ends (write_fault n (length out)) (length (image n) ∷ []) t q in
+    write_done {at} z =
         rw e (record {
           number = tells_number 0 (write_fault n (length out)) _ (at ∷ []) z;
           output = o ∙ written_leaves n out;

@@ -1,15 +1,14 @@
 -- The bench through the door: beside its network's three arrays it is lent as the four of `layout`, with the counters as 7 numbers and the report as
 -- 15. A bench, counters or a report of wrong length is out of shape, 28.
-use Rattle.std.specs.Prelude.{ℕ, ◌≡◌, Bool, cond, ◌&&◌, List, [], ◌∷◌, eqb, get_or}
+use Rattle.std.specs.Prelude.{ℕ, ◌≡◌, Bool, cond, ◌&&◌, List, [], ◌∷◌, Ok, Err, eqb, get_or}
 use Rattle.refusal.specs.Refusal.{leaves}
 use Rattle.network.specs.declared.Network.{Network}
 use Rattle.network.specs.Checks.{network_fault}
 use Rattle.filter.specs.Filter.{zeros}
 use Rattle.event.specs.declared.Event.{Event}
 use Rattle.event.specs.Event.{bad_event, event_in}
-use Rattle.turn.specs.declared.Answer.{Answer}
-use Rattle.turn.specs.declared.Answer.TheVariants.{Refused, Stepped, Linked}
-use Rattle.turn.specs.Turn.{report_values}
+use Rattle.turn.specs.declared.Done.TheVariants.{Stepped, Linked}
+use Rattle.turn.specs.Turn.{Answer, report_values}
 use Rattle.bench.specs.declared.Bench.{Bench}
 use Rattle.bench.specs.Bench.{fresh_bench}
 use Rattle.bench.specs.Events.{event_of}
@@ -62,9 +61,9 @@ abbrev pub event_size : ℕ
 event_size = 15
 
 abbrev pub event_numbers : Answer → List ℕ
-event_numbers (Refused n) = zeros event_size
-event_numbers (Stepped r) = 0 ∷ report_values r
-event_numbers (Linked cut) = cut ∷ 0 ∷ 0 ∷ 0 ∷ 0 ∷ 0 ∷ 0 ∷ 0 ∷ 0 ∷ 0x4B ∷ 0 ∷ 0 ∷ 0 ∷ 0 ∷ 0 ∷ []
+event_numbers (Err r) = zeros event_size
+event_numbers (Ok (Stepped r)) = 0 ∷ report_values r
+event_numbers (Ok (Linked cut)) = cut ∷ 0 ∷ 0 ∷ 0 ∷ 0 ∷ 0 ∷ 0 ∷ 0 ∷ 0 ∷ 0x4B ∷ 0 ∷ 0 ∷ 0 ∷ 0 ∷ 0 ∷ []
 
 -- bench, counters and report have their lengths
 unfoldable pub event_fits : ℕ → ℕ → ℕ → ℕ → ℕ → ℕ → Bool

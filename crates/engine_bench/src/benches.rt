@@ -1,46 +1,23 @@
 // The bench: a network's three arrays, which stay as they are, and the bench's four, drawn in crate `layout`.
-ghost use Rattle.std.specs.Prelude.{◌≡◌, length};
+ghost use Rattle.std.specs.Prelude.{Ok, ◌≡◌, length};
 ghost use Rattle.network.specs.Checks.{network_fault};
 ghost use Rattle.event.specs.Event.{event_in};
 ghost use Rattle.counters.specs.Event.{event_refusal};
-ghost use Rattle.layout.specs.Layout.{HoldsBench, LaidBench, bench_fits, bench_in, network_fits, network_in};
+ghost use Rattle.layout.specs.Layout.{HoldsBench, bench_fits, bench_in, network_fits, network_in};
 ghost use Rattle.engine_bench.specs.Bench.{FreshensBench, HappensLent, counter_size, counter_values, counters_in, event_fits, event_numbers, event_size, fresh_refusal, happen_refusal};
 
-use bench::{Bench, Made};
-use counters::{Counted, Counters, happens};
-use engine::numbers::put;
+use bench::Bench;
+use counters::Counters;
 use event::{Event, read_event};
 use layout::{bench_fits, bench_of, lay_bench, network_fits, network_of};
 use network::Network;
+use refusal::Refusal;
 use rules::{letter_of, sent_by};
-use turn::{Answer, Report, refusal_of};
+use turn::{Done, Report};
 
 const COUNTERS: usize = 7;
 
 const REPORT: usize = 15;
-
-// A fresh bench of a network, laid into arrays of the right lengths.
-fn freshen(
-    n: Network,
-    bytes: &mut [u8],
-    masks: &mut [u16],
-    words: &mut [u32],
-    wides: &mut [u64],
-) -> u8
-    requires { HoldsBench bytes.old masks.old words.old wides.old }
-    ensures { FreshensBench (network_fault n) n bytes.old masks.old words.old wides.old result bytes.new masks.new words.new wides.new }
-{
-    let fresh = Bench::fresh(n);
-    let made = fresh.made;
-    match made {
-        Made::Refused(number) => number,
-        Made::Ready => {
-            let bench = fresh.bench;
-            lay_bench(bench, bytes, masks, words, wides);
-            0
-        }
-    }
-}
 
 // A bench of a network on which nothing has happened.
 #[unsafe(no_mangle)]
@@ -55,14 +32,19 @@ pub extern "C" fn sc_fresh(
 ) -> u8
     ensures { FreshensBench (fresh_refusal (network_fits (length network.now) (length salts.now) (length addresses.now)) (bench_fits (length bytes.old) (length masks.old) (length words.old) (length wides.old)) (network_in network.now salts.now addresses.now)) (network_in network.now salts.now addresses.now) bytes.old masks.old words.old wides.old result bytes.new masks.new words.new wides.new }
 {
-    if network_fits(network.len(), salts.len(), addresses.len()) {
-        if bench_fits(bytes.len(), masks.len(), words.len(), wides.len()) {
-            let n = network_of(network, salts, addresses);
-            return freshen(n, bytes, masks, words, wides);
-        }
-        return 28;
+    if !network_fits(network.len(), salts.len(), addresses.len()) {
+        return Refusal::BadRecord.number();
     }
-    20
+    if !bench_fits(bytes.len(), masks.len(), words.len(), wides.len()) {
+        return Refusal::OutOfShape.number();
+    }
+    match Bench::fresh(&network_of(network, salts, addresses)) {
+        Err(r) => r.number(),
+        Ok(bench) => {
+            lay_bench(&bench, bytes, masks, words, wides);
+            0
+        }
+    }
 }
 
 // The counters that seven numbers are.
@@ -98,7 +80,7 @@ fn counter_numbers(c: Counters) -> [u64; COUNTERS]
 
 // The numbers of a step's report, behind how many copies were cut.
 fn step_numbers(r: Report) -> [u64; REPORT]
-    ensures { result ≡ event_numbers (Answer.Stepped r) }
+    ensures { result ≡ event_numbers (Ok (Done.Stepped r)) }
 {
     let v = r.verdict;
     let s = sent_by(v);
@@ -122,41 +104,14 @@ fn step_numbers(r: Report) -> [u64; REPORT]
     ]
 }
 
-// The numbers of an answer.
-fn event_numbers(a: Answer) -> [u64; REPORT]
-    ensures { result ≡ event_numbers a }
+// The numbers of what an event did.
+fn event_numbers(done: Done) -> [u64; REPORT]
+    ensures { result ≡ event_numbers (Ok done) }
 {
-    match a {
-        Answer::Refused(_) => [0u64; REPORT],
-        Answer::Stepped(r) => step_numbers(r),
-        Answer::Linked(cut) => [cut as u64, 0, 0, 0, 0, 0, 0, 0, 0, 0x4B, 0, 0, 0, 0, 0],
+    match done {
+        Done::Stepped(r) => step_numbers(r),
+        Done::Linked(cut) => [cut as u64, 0, 0, 0, 0, 0, 0, 0, 0, 0x4B, 0, 0, 0, 0, 0],
     }
-}
-
-// Lays an accepted event's bench, counters and report down.
-fn lay_counted(
-    r: Counted,
-    bytes: &mut [u8],
-    masks: &mut [u16],
-    words: &mut [u32],
-    wides: &mut [u64],
-    counters: &mut [u64],
-    report: &mut [u64],
-)
-    requires { HoldsBench bytes.old masks.old words.old wides.old × (length counters.old ≡ counter_size) × (length report.old ≡ event_size) }
-    ensures bench { LaidBench r.happened.bench bytes.new masks.new words.new wides.new }
-    ensures counters { counters.new ≡ counter_values r.counters }
-    ensures report { report.new ≡ event_numbers r.happened.answer }
-{
-    let happened = r.happened;
-    let bench = happened.bench;
-    lay_bench(bench, bytes, masks, words, wides);
-    let after = r.counters;
-    let c = counter_numbers(after);
-    put(counters, &c);
-    let answer = happened.answer;
-    let numbers = event_numbers(answer);
-    put(report, &numbers);
 }
 
 // An event on a bench in arrays of the right lengths.
@@ -173,19 +128,21 @@ fn happen(
     requires { HoldsBench bytes.old masks.old words.old wides.old × (length counters.old ≡ counter_size) × (length report.old ≡ event_size) }
     ensures { HappensLent (event_refusal (bench_in n bytes.old masks.old words.old wides.old) (counters_in counters.old) e) (bench_in n bytes.old masks.old words.old wides.old) e (counters_in counters.old) bytes.old masks.old words.old wides.old counters.old report.old result bytes.new masks.new words.new wides.new counters.new report.new }
 {
-    let bench = bench_of(n, bytes, masks, words, wides);
-    let counted = happens(bench, e, counters_of(counters));
-    let happened = counted.happened;
-    let answer = happened.answer;
-    let refused = refusal_of(answer);
-    if refused != 0 {
-        return refused;
+    let mut bench = bench_of(n, bytes, masks, words, wides);
+    let mut after = counters_of(counters);
+    match counters::event(&mut bench, e, &mut after) {
+        Err(r) => r.number(),
+        Ok(done) => {
+            lay_bench(&bench, bytes, masks, words, wides);
+            counters.copy_from_slice(&counter_numbers(after));
+            report.copy_from_slice(&event_numbers(done));
+            0
+        }
     }
-    lay_counted(counted, bytes, masks, words, wides, counters, report);
-    0
 }
 
 // Whether bench, counters and report have their lengths.
+#[tactic(auto, unfolding(crate::specs::Bench::event_fits))]
 fn event_fits(
     bytes: usize,
     masks: usize,
@@ -196,13 +153,7 @@ fn event_fits(
 ) -> bool
     ensures { result ≡ event_fits bytes masks words wides counters report }
 {
-    if counters != COUNTERS {
-        return false;
-    }
-    if report != REPORT {
-        return false;
-    }
-    bench_fits(bytes, masks, words, wides)
+    counters == COUNTERS && report == REPORT && bench_fits(bytes, masks, words, wides)
 }
 
 // What happens on a bench: the event whose record the input starts with.
@@ -221,27 +172,24 @@ pub extern "C" fn sc_event(
 ) -> u8
     ensures { HappensLent (happen_refusal (network_fits (length network.now) (length salts.now) (length addresses.now)) (event_fits (length bytes.old) (length masks.old) (length words.old) (length wides.old) (length counters.old) (length report.old)) (bench_in (network_in network.now salts.now addresses.now) bytes.old masks.old words.old wides.old) (counters_in counters.old) input.now) (bench_in (network_in network.now salts.now addresses.now) bytes.old masks.old words.old wides.old) (event_in input.now) (counters_in counters.old) bytes.old masks.old words.old wides.old counters.old report.old result bytes.new masks.new words.new wides.new counters.new report.new }
 {
-    if network_fits(network.len(), salts.len(), addresses.len()) {
-        if event_fits(
-            bytes.len(),
-            masks.len(),
-            words.len(),
-            wides.len(),
-            counters.len(),
-            report.len(),
-        ) {
-            let read = read_event(input, 0);
-            match read {
-                event::Answer::Refused(number) => {
-                    return number;
-                }
-                event::Answer::Got(e) => {
-                    let n = network_of(network, salts, addresses);
-                    return happen(n, e, bytes, masks, words, wides, counters, report);
-                }
-            }
-        }
-        return 28;
+    if !network_fits(network.len(), salts.len(), addresses.len()) {
+        return Refusal::BadRecord.number();
     }
-    20
+    if !event_fits(
+        bytes.len(),
+        masks.len(),
+        words.len(),
+        wides.len(),
+        counters.len(),
+        report.len(),
+    ) {
+        return Refusal::OutOfShape.number();
+    }
+    match read_event(input, 0) {
+        Err(r) => r.number(),
+        Ok(e) => {
+            let n = network_of(network, salts, addresses);
+            happen(n, e, bytes, masks, words, wides, counters, report)
+        }
+    }
 }

@@ -4,7 +4,8 @@ ghost use Rattle.layout.specs.Layout.{network_fits, network_in};
 ghost use Rattle.engine_bench.specs.Networks.{ReadsLent, WritesLent, read_refusal, write_refusal};
 
 use layout::{lay_network, network_fits, network_of};
-use network::Answer;
+use network::{read, write};
+use refusal::Refusal;
 
 // Reads the description that the input starts with.
 #[unsafe(no_mangle)]
@@ -17,22 +18,17 @@ pub extern "C" fn sc_read(
 ) -> u8
     ensures { ReadsLent (read_refusal (network_fits (length bytes.old) (length salts.old) (length addresses.old)) input.now) input.now bytes.old salts.old addresses.old end.old result bytes.new salts.new addresses.new end.new }
 {
-    if network_fits(bytes.len(), salts.len(), addresses.len()) {
-        let described = network::read(input);
-        let answer = described.answer;
-        match answer {
-            Answer::Refused(n) => {
-                return n;
-            }
-            Answer::Ends(at) => {
-                let network = described.network;
-                lay_network(network, bytes, salts, addresses);
-                *end = at;
-                return 0;
-            }
+    if !network_fits(bytes.len(), salts.len(), addresses.len()) {
+        return Refusal::BadRecord.number();
+    }
+    match read(input) {
+        Err(r) => r.number(),
+        Ok(d) => {
+            lay_network(&d.network, bytes, salts, addresses);
+            *end = d.end;
+            0
         }
     }
-    20
 }
 
 // Writes a network's description at the output's start.
@@ -46,17 +42,14 @@ pub extern "C" fn sc_write(
 ) -> u8
     ensures { WritesLent (write_refusal (network_fits (length bytes.now) (length salts.now) (length addresses.now)) (network_in bytes.now salts.now addresses.now) (length out.old)) (network_in bytes.now salts.now addresses.now) out.old long.old result out.new long.new }
 {
-    if network_fits(bytes.len(), salts.len(), addresses.len()) {
-        let answer = network::write(network_of(bytes, salts, addresses), out);
-        match answer {
-            Answer::Refused(n) => {
-                return n;
-            }
-            Answer::Ends(n) => {
-                *long = n;
-                return 0;
-            }
+    if !network_fits(bytes.len(), salts.len(), addresses.len()) {
+        return Refusal::BadRecord.number();
+    }
+    match write(&network_of(bytes, salts, addresses), out) {
+        Err(r) => r.number(),
+        Ok(n) => {
+            *long = n;
+            0
         }
     }
-    20
 }

@@ -1,12 +1,10 @@
--- The event by value, laid down only where nothing was refused.
-use Rattle.engine_bench.proofs.Benching.{happen_done, happen_refused, happens_is}
+-- The event on what the arrays hold, laid down only where nothing was refused.
+use mathlib.Core.Path.{◌∙◌}
+use Rattle.engine_bench.proofs.Benching.{happen_done}
 use Rattle.engine_bench.proofs.benches.happen.Goals as goal
 
-pub returns-then-refused-ne0 : goal.returns-then-refused-ne0
-returns-then-refused-ne0 c = happen_refused (happens_is _ c.happens-counted.ensures c.bench_of-bench.ensures c.counters_of.ensures) c.refusal_of-refused.ensures c.if-refused-ne0.true
-
-pub lay_counted-requires : goal.lay_counted-requires
-lay_counted-requires c = c.requires
-
-pub returns : goal.returns
-returns c = happen_done (happens_is _ c.happens-counted.ensures c.bench_of-bench.ensures c.counters_of.ensures) c.refusal_of-refused.ensures c.if-refused-ne0.false c.lay_counted.ensures.bench c.lay_counted.ensures.counters c.lay_counted.ensures.report
+pub returns-in-Ok : goal.returns-in-Ok
+returns-in-Ok c =
+    happen_done (rw (c.bench_of-bench.ensures, c.counters_of-after.ensures) at c.in-Ok.ensures) c.lay_bench.ensures
+    (c.copy_from_slice.ensures.after ∙ c.counter_numbers.ensures)
+    (c.copy_from_slice-in-Ok.ensures.after ∙ c.event_numbers.ensures)

@@ -1,16 +1,16 @@
 -- The network that the arrays hold is written, and the length goes back through the reference.
-use Rattle.engine_bench.proofs.Describing.{fits_network, write_done, write_refused, write_unsized}
 use mathlib.Core.Path.{sym, ◌∙◌}
+use Rattle.engine_bench.proofs.Describing.{write_done, write_refused, write_unsized}
 use Rattle.engine_bench.proofs.networks.sc_write.Goals as goal
 
-pub network_of-requires : goal.network_of-requires
-network_of-requires c = fits_network _ _ _ (sym c.network_fits.ensures ∙ c.if-network_fits.true)
+pub returns-then-not-network_fits : goal.returns-then-not-network_fits
+returns-then-not-network_fits c = rw c.number.ensures (write_unsized (sym c.network_fits.ensures ∙ c.if-not-network_fits.true))
 
-pub returns-in-Refused : goal.returns-in-Refused
-returns-in-Refused c = write_refused (sym c.network_fits.ensures ∙ c.if-network_fits.true) (rw c.network_of.ensures at c.write-answer.ensures.answer) (rw c.network_of.ensures at c.write-answer.ensures.output) c.in-Refused.is
+pub returns-in-Err : goal.returns-in-Err
+returns-in-Err c =
+    rw c.number-in-Err.ensures
+    (write_refused (sym c.network_fits.ensures ∙ c.if-not-network_fits.false) (rw c.network_of.ensures at c.in-Err.ensures.output) (rw c.network_of.ensures at c.in-Err.ensures.answer))
 
-pub returns-in-Ends : goal.returns-in-Ends
-returns-in-Ends c = write_done (sym c.network_fits.ensures ∙ c.if-network_fits.true) (rw c.network_of.ensures at c.write-answer.ensures.answer) (rw c.network_of.ensures at c.write-answer.ensures.output) c.in-Ends.is
-
-pub returns : goal.returns
-returns c = write_unsized (sym c.network_fits.ensures ∙ c.if-network_fits.false)
+pub returns-in-Ok : goal.returns-in-Ok
+returns-in-Ok c =
+    write_done (sym c.network_fits.ensures ∙ c.if-not-network_fits.false) (rw c.network_of.ensures at c.in-Ok.ensures.output) (rw c.network_of.ensures at c.in-Ok.ensures.answer)
