@@ -60,6 +60,7 @@ fn mark(plugs: &mut [u8], p: Port, number: u8)
 fn plug_hosts(n: &Network, plugs: &mut [u8])
     ensures { plugs.new ≡ plug_all (plug_host n.now.hosts) (min n.now.nhosts most_hosts) plugs.old }
 {
+    // By number: the number is what the port gets.
     for i in 0..n.nhosts.min(Network::HOSTS as u8) {
         let h = n.hosts[i as usize];
         mark(plugs, h.port, FIRST_HOST + i);
@@ -71,6 +72,7 @@ fn plug_hosts(n: &Network, plugs: &mut [u8])
 fn plug_links(n: &Network, plugs: &mut [u8])
     ensures { plugs.new ≡ plug_all (plug_link n.now.links) (min n.now.nlinks most_links) plugs.old }
 {
+    // By number: the number is what the ports get.
     for i in 0..n.nlinks.min(Network::LINKS as u8) {
         let l = n.links[i as usize];
         let number = FIRST_LINK + 2 * i;

@@ -81,6 +81,7 @@ pub fn take_out(words: &mut [[u64; 3]], n: usize, place: usize)
     requires { (place < n) × (n ≤ length words.old) }
     ensures { TakenOut place n words.old words.new }
 {
+    // By index: each copy moves within the array that it is read from.
     for i in place + 1..n {
         let w = words[i];
         words[i - 1] = w;
@@ -93,6 +94,7 @@ pub fn cut(words: &mut [[u64; 3]], n: usize, link: u8) -> usize
     ensures { Cut link n words.old words.new result }
 {
     let mut left: usize = 0;
+    // By index: those left move within the array that they are read from.
     for i in 0..n {
         let w = words[i];
         // The link is in the lowest bits.
@@ -133,6 +135,7 @@ pub fn words_of(copies: &[Copy; Copy::MOST], n: usize) -> [[u64; 3]; Copy::MOST]
     ensures { Worded n copies.now result }
 {
     let mut words = [[0u64; 3]; Copy::MOST];
+    // By index: two arrays, of which only the first n places count.
     for i in 0..n {
         words[i] = copies[i].packed();
     }
@@ -146,6 +149,7 @@ pub fn copies_of(words: &[[u64; 3]], n: usize) -> [Copy; Copy::MOST]
     ensures { result ≡ copies_in n words.now ++ replicate (most - n) no_copy }
 {
     let mut copies = [Copy::empty(); Copy::MOST];
+    // By index: two arrays, of which only the first n places count.
     for i in 0..n {
         copies[i] = Copy::unpacked(words[i]);
     }
