@@ -137,3 +137,6 @@ module _ (f : List ℕ) (salt : ℕ) (key : List ℕ) (none : has_cell f key ≡
   pub recorded_none : recorded f salt key ≡ f
   unfolding recorded
   recorded_none = rw none
+
+-- what a search of the key's cell comes to
+pub ruleset of_cell = (holds_there, overwrites_there, recorded_there, overwrites_again, recorded_again, holds_none, overwrites_none, recorded_none)

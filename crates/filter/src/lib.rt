@@ -65,7 +65,7 @@ fn empty_at(filter: &[u8], at: usize, count: usize) -> bool
 }
 
 // Whether the key's cell holds exactly it.
-#[tactic(auto, using(crate::proofs::Places::holds_there, crate::proofs::Places::holds_none))]
+#[tactic(auto, using(crate::proofs::Places::of_cell))]
 pub fn duplicate(filter: &[u8], salt: u32, key: &[u8]) -> bool
     ensures { result ≡ holds filter.now salt key.now }
 {
@@ -76,7 +76,7 @@ pub fn duplicate(filter: &[u8], salt: u32, key: &[u8]) -> bool
 }
 
 // Records a key in its cell. Rule 3 asks first whether it is a duplicate: one call, one hash.
-#[tactic(auto, using(crate::proofs::Places::holds_there, crate::proofs::Places::overwrites_there, crate::proofs::Places::recorded_there, crate::proofs::Places::overwrites_again, crate::proofs::Places::recorded_again, crate::proofs::Places::holds_none, crate::proofs::Places::overwrites_none, crate::proofs::Places::recorded_none))]
+#[tactic(auto, using(crate::proofs::Places::of_cell))]
 pub fn record(filter: &mut [u8], salt: u32, key: &[u8]) -> Recorded
     ensures duplicate { result.duplicate ≡ holds filter.old salt key.now }
     ensures overwrote { result.overwrote ≡ overwrites filter.old salt key.now }
