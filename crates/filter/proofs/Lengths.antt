@@ -1,10 +1,9 @@
 -- The five lengths: the test is true exactly where the number of cells is a power of two, 16 to 256.
-use Rattle.std.proofs.Common.{◌≡◌, ℕ, ◌*◌, ◌^◌, ◌<◌, ◌≤◌, true, false, ◌⊎◌, refl, inl, inr, arith, ne_eqb, eqb-true}
+use Rattle.std.proofs.Common.{◌≡◌, ℕ, ◌*◌, ◌^◌, ◌<◌, ◌≤◌, true, false, ◌⊎◌, ◌≢◌, refl, inl, inr, arith, ne_eqb, eqb-true}
 use mathlib.Core.Logic.{by_cases}
 use native.Mathlib.Decide.{ℕ_discrete, dec_lt}
 use native.Mathlib.Nat.{pow-le-pow_right}
 use Rattle.filter.specs.Triple.{width, Count, is_length}
-use Rattle.filter.proofs.Bytes.{refuted}
 
 -- one of the five
 abbrev pub Length : ℕ → Type 0
@@ -27,8 +26,9 @@ length_of n e =
     by_cases (ℕ_discrete n 1280) (λ h. inr (inr (inr (inl h)))) λ d.
     inr (inr (inr (inr (eqb-true n 2560 (rw (ne_eqb n 160 a, ne_eqb n 320 b, ne_eqb n 640 c, ne_eqb n 1280 d) at e)))))
 
-pub length_false : {n : ℕ} → (Length n → ⊥) → is_length n ≡ false
-length_false {n} h = refuted (is_length n) λ e. h (length_of n e)
+pub length_false : (n : ℕ) → n ≢ 160 → n ≢ 320 → n ≢ 640 → n ≢ 1280 → n ≢ 2560 → is_length n ≡ false
+unfolding is_length
+length_false n a b c d e = rw (ne_eqb n 160 a, ne_eqb n 320 b, ne_eqb n 640 c, ne_eqb n 1280 d, ne_eqb n 2560 e)
 
 -- a power of two from 16 to 256 has one of five exponents
 pub count_length : {count : ℕ} → Count count → Length (count * width)

@@ -135,6 +135,7 @@ fn cells_fit(filter: &[u8]) -> bool
 }
 
 // Whether a number of bytes is that of 16, 32, 64, 128 or 256 cells.
+#[tactic(auto, using(crate::proofs::Lengths::length_true, crate::proofs::Lengths::length_false))]
 fn length_fits(len: usize) -> bool
     ensures { result ≡ is_length len }
 {

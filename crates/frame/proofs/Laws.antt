@@ -11,7 +11,7 @@ use mir.Val.{bool_byte}
 use Rattle.frame.specs.Header.{bit, header_of}
 use borrow.Author.Tests.{le-leb, le-ltb, lt-leb, eq-eqb, ne_eqb, ltb-false, leb-false, eqb-true, eqb-false, not-false}
 use Rattle.refusal.specs.Exact.{Numbered}
-use Rattle.refusal.proofs.Laws.{in_turn, in_order, none_holds, inside, not_outside, neither}
+use Rattle.refusal.proofs.Laws.{none_holds, inside, not_outside, neither}
 use Rattle.frame.specs.declared.Header.{Header}
 use Rattle.frame.specs.Frame.{our_type, at_start, has_room, tag_before, tag_into, tagged, stripped, type_of, old_type_of, header_in, tag_causes, strip_causes, tag_refusal, strip_refusal}
 
@@ -68,10 +68,6 @@ module _ (frame : List ℕ) (h : Header) (room : ℕ) where
   tag_numbered : Numbered (tag_causes frame h room)
   tag_numbered = omega arith
 
-  pub tag_in_turn : in_turn 0 (tag_causes frame h room) ≡ tag_refusal frame h room
-  unfolding tag_refusal
-  tag_in_turn = in_order (tag_causes frame h room) tag_numbered
-
   pub taggable : tag_refusal frame h room ≡ 0 → Taggable frame h room
   unfolding tag_refusal
   taggable e =
@@ -103,10 +99,6 @@ module _ (frame : List ℕ) (h : Header) (room : ℕ) where
 module _ (frame : List ℕ) (room : ℕ) where
   strip_numbered : Numbered (strip_causes frame room)
   strip_numbered = omega arith
-
-  pub strip_in_turn : in_turn 0 (strip_causes frame room) ≡ strip_refusal frame room
-  unfolding strip_refusal
-  strip_in_turn = in_order (strip_causes frame room) strip_numbered
 
   pub strippable : strip_refusal frame room ≡ 0 → Strippable frame room
   unfolding strip_refusal

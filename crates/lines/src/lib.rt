@@ -62,6 +62,7 @@ fn put_digits(out: &mut [u8], at: usize, n: u32, base: u32, count: usize)
     }
 }
 
+#[tactic(auto, using(crate::proofs::Digits::decimal_long), unfolding(crate::specs::Lines::decimal))]
 fn put_decimal(out: &mut [u8], at: usize, n: u32) -> usize
     requires { at + length (decimal n) ≤ length out.old }
     ensures end { result ≡ at + length (decimal n) }
@@ -125,6 +126,7 @@ pub fn put_refused(out: &mut [u8], at: usize, n: u8) -> usize
 }
 
 // Puts what a bad event record prints.
+#[tactic(auto, using(wire::proofs::Laws::put_fits), unfolding(crate::specs::Lines::stop_line, crate::specs::Lines::text))]
 pub fn put_stop(out: &mut [u8], at: usize) -> usize
     requires { at + length stop_line ≤ length out.old }
     ensures end { result ≡ at + length stop_line }

@@ -3,9 +3,9 @@ use Prim.Native.Nat.{ℕ, zero, suc, ◌≤◌}
 use mathlib.Core.Path.{◌≡◌, refl, sym, ap}
 use mathlib.Core.Bool.{Bool, true, false, cond, ◌||◌, true≢false}
 use mathlib.Core.List.{List, [], ◌∷◌, ◌++◌}
-use Rattle.refusal.specs.Refusal.{Cause, when, first, next, outside, answered, leaves}
+use Rattle.refusal.specs.Refusal.{Cause, when, first, outside, answered, leaves}
 use lib.Dec.{ltb}
-use borrow.Author.Tests.{ne_eqb, le-ltb, ltb-false}
+use borrow.Author.Tests.{le-ltb, ltb-false}
 use Rattle.refusal.specs.Exact.{NoneHolds, Numbered, Decides, ForItsCauseOnly}
 
 -- the causes with one more in front that does not hold
@@ -47,27 +47,6 @@ for_its_cause_only cs =
       accepted = none_first cs;
       only_then = first_none cs;
     }
-
--- causes asked one behind the other
-abbrev pub in_turn : ℕ → List Cause → ℕ
-in_turn found [] = found
-in_turn found (c ∷ cs) = in_turn (next found c) cs
-
--- a number that was found stands
-stands : (found : ℕ) → (found ≡ 0 → ⊥) → (cs : List Cause) → in_turn found cs ≡ found
-unfolding next
-stands found some [] = refl
-stands found some (c ∷ cs) = rw (ne_eqb found 0 some) (stands found some cs)
-
--- asking in turn finds the first cause that holds
-pub in_order : (cs : List Cause) → Numbered cs → in_turn 0 cs ≡ first cs
-unfolding next
-in_order [] ns = refl
-in_order (c ∷ cs) ns = by_test c.holds refl (in_order cs ns.1)
-  where
-    by_test : (b : Bool) → c.holds ≡ b → in_turn 0 cs ≡ first cs → in_turn (cond b c.number 0) cs ≡ cond b c.number (first cs)
-    by_test true h go = stands c.number ns.0 cs
-    by_test false h go = go
 
 -- none of the causes of an accepted call holds
 pub none_holds : (cs : List Cause) → Numbered cs → first cs ≡ 0 → NoneHolds cs

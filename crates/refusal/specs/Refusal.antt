@@ -1,6 +1,6 @@
 -- Document 01, "Refusal numbers": a call checks its causes in a fixed order, and the first that holds decides.
 -- All of it is the interface that contracts cite.
-use Rattle.std.specs.Prelude.{ℕ, zero, suc, Bool, cond, ◌||◌, List, [], ◌∷◌, eqb, ltb}
+use Rattle.std.specs.Prelude.{ℕ, zero, suc, Bool, cond, ◌||◌, List, [], ◌∷◌, ltb}
 
 -- a refusal number, and whether what it is listed for is so
 pub record Cause : Type 0 where
@@ -15,10 +15,6 @@ when n b = record { number = n; holds = b }
 abbrev pub first : List Cause → ℕ
 first [] = 0
 first (c ∷ cs) = cond c.holds c.number (first cs)
-
--- a number found so far, and one cause more behind those that were asked
-unfoldable pub next : ℕ → Cause → ℕ
-next found c = cond (eqb found 0) (cond c.holds c.number 0) found
 
 -- what an answer tells: its refusal number, 0 for none, and its values
 pub record Told : Type 0 where
