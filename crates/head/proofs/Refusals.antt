@@ -13,7 +13,7 @@ use Rattle.std.specs.Prelude.{Err, Ok, OnOk, Result}
 use Rattle.refusal.specs.Number.{number_of}
 use Rattle.refusal.specs.Refusal.{first}
 use Rattle.refusal.specs.declared.Refusal.{Refusal}
-use Rattle.refusal.proofs.Told.{refused_apart}
+use Rattle.refusal.proofs.Told.{some}
 use Rattle.refusal.specs.Exact.{Numbered, NoneHolds}
 use Rattle.refusal.proofs.Laws.{none_holds, inside, first_front, first_behind_none}
 use Rattle.wire.specs.Address.{is_source}
@@ -39,10 +39,6 @@ beyond_none ports mask h l = lt-leb (2 ^ ports) mask (lt_of_lt_of_le h (pow_mono
 room_on : (host : Bool) (n room : ℕ) → bad_length host n ≡ false → too_short host n room ≡ false → HasRoom host n room
 room_on true n room e q = let p = inside 60 1514 n e in let r = ltb-false room (n + 6) q in record { long_enough = omega arith; fits = omega arith }
 room_on false n room e q = let p = inside 66 1520 n e in let r = ltb-false room n q in record { long_enough = omega arith; fits = omega arith }
-
--- no refusal has the number 0
-pub some : (r : Refusal) → number_of r ≡ 0 → ⊥
-some r e = let none = refused_apart {A = Unit {0}} r (Ok tt) (sym e) in cc
 
 -- what a step that passed 2 to 9 knows
 module _ (s : Setup) (port : ℕ) (frame : List ℕ) (room : ℕ) (none : refusal_but1 s port frame room ≡ 0) where

@@ -3,7 +3,8 @@ use mathlib.Core.Path.{refl}
 use lib.ListN.{length}
 use Rattle.refusal.proofs.Laws.{refused_answer, refused_leaves}
 use Rattle.std.proofs.lemmas.Result.{err_from_is_err_and}
-use Rattle.head.proofs.Refusals.{refused_1, some}
+use Rattle.refusal.proofs.Told.{some}
+use Rattle.head.proofs.Refusals.{refused_1}
 use Rattle.head.proofs.Switch.step.Goals as goal
 
 pub returns-in_err-check : goal.returns-in_err-check
