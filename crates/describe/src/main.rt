@@ -3,6 +3,8 @@
 // is answered by "refused " and the number.
 #![tactic(auto)]
 
+ghost use Rattle.std.specs.Prelude.{◌≤◌, IfOk, length};
+
 use refusal::Refusal;
 use std::io;
 
@@ -10,7 +12,9 @@ use std::io;
 const LONGEST: usize = 945;
 
 // What comes back, and how long it is.
-fn answer(input: &[u8], out: &mut [u8]) -> Result<usize, Refusal> {
+fn answer(input: &[u8], out: &mut [u8]) -> Result<usize, Refusal>
+    ensures { IfOk result (λ n. n ≤ length out.new) }
+{
     let d = network::read(input)?;
     network::write(&d.network, out)
 }
