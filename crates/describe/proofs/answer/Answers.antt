@@ -4,7 +4,7 @@ use mathlib.Core.Path.{◌≡◌, refl, sym, ap, ◌∙◌}
 use mathlib.Core.Bool.{Bool, true, false, cond}
 use mathlib.Core.List.{List, [], ◌∷◌}
 use native.Mathlib.Omega.{arith}
-use borrow.Author.Tests.{ltb-false}
+use borrow.Author.Tests.{ltb-false, ne_eqb}
 use lib.Dec.{ltb}
 use lib.ListN.{length}
 use Rattle.std.specs.Prelude.{Result, Ok, Err, IfOk}
@@ -23,7 +23,7 @@ room_for zero room long e = by_test (ltb room long) refl e
     by_test : (b : Bool) → ltb room long ≡ b → ◌≡◌ {A = ℕ} (cond b 27 0) 0 → long ≤ room
     by_test true h q = absurd (omega arith)
     by_test false h q = ltb-false room long h
-room_for (suc f) room long e = absurd (omega arith)
+room_for (suc f) room long e = let some : ◌≡◌ {A = ℕ} (suc f) 0 = rw (ne_eqb (suc f) 0 (λ z. omega arith)) at e in absurd (omega arith)
 
 told_fits : (n : Network) (room long f : ℕ) → f ≡ write_fault n room → record { number = 0; values = end_values long } ≡ answered f (length (image n) ∷ []) → long ≤ room
 unfolding write_fault
@@ -38,4 +38,4 @@ fits n room (Ok long) e = told_fits n room long (write_fault n room) refl e
 fits n room (Err r) e = tt
 
 pub returns : goal.returns
-returns c = fits c.in_ok-d.d.network _ c.write.result c.write.ensures.answer
+returns c = rw c.write.auto.out (fits c.in_ok-d.d.network _ c.write.result c.write.ensures.answer)
