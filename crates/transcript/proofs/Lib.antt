@@ -1,4 +1,5 @@
 pub mod Laws
+mod Following
 mod Standing
 mod Small
 mod Printing

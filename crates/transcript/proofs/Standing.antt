@@ -16,13 +16,14 @@ use Rattle.event.specs.declared.Event.{Event}
 use Rattle.turn.specs.declared.Done.{Done}
 use Rattle.turn.specs.Turn.{Answer, Kept, Turn, Turns, head_of, turn_of}
 use Rattle.bench.specs.declared.Bench.{Bench}
-use Rattle.bench.specs.Bench.{bench_of, fresh_bench, in_flight, no_seat, seat_at}
+use Rattle.bench.specs.Bench.{all_up, bench_of, fresh_bench, in_flight, no_seat, seat_at}
 use Rattle.bench.specs.Events.{event_of, follow, happened_as, turned, turn_in}
-use Rattle.bench.proofs.Laws.{follow_again, follow_at, follows_fresh}
+use Rattle.bench.proofs.Laws.{follow_again, follow_at}
 use Rattle.counters.specs.declared.Counters.{Counters}
 use Rattle.counters.specs.Event.{event_refusal, happens_by, happens_of, refusal_numbered}
 use Rattle.transcript.specs.declared.running.Parts.{Parts}
 use Rattle.transcript.specs.Running.{Acts, Taken, copies_of, fresh_parts, head_at, refusal_at, seated_at, turn_at}
+use Rattle.transcript.proofs.Following.{fresh_follow}
 use Rattle.transcript.proofs.Small.{own_numbered}
 
 unfoldable pub bench_on : Network → Parts → Bench
@@ -32,8 +33,8 @@ bench_on n p = bench_of n p.up (follow n p.up 0 p.seats) (padded no_copy most (c
 
 -- no words are no copies
 pub fresh_stands : (n : Network) → n.nswitches ≤ most_switches → bench_on n fresh_parts ≡ fresh_bench n
-unfolding bench_on copies_in
-fresh_stands n few = follows_fresh few refl refl refl
+unfolding bench_on fresh_bench copies_in
+fresh_stands n few = ap (λ seats. bench_of n all_up seats (replicate most no_copy) 0) (fresh_follow n all_up few)
 
 -- ---- One event
 

@@ -1,6 +1,6 @@
 -- The writer refuses what has no room, so what it wrote had room.
 use Prim.Native.Nat.{ℕ, zero, suc, ◌≤◌}
-use mathlib.Core.Path.{◌≡◌, refl, sym, ap, ◌∙◌}
+use mathlib.Core.Path.{◌≡◌, refl, sym, ap}
 use mathlib.Core.Bool.{Bool, true, false, cond}
 use mathlib.Core.List.{List, [], ◌∷◌}
 use native.Mathlib.Omega.{arith}
@@ -13,7 +13,7 @@ use Rattle.refusal.specs.Refusal.{Told, answered, first, when}
 use Rattle.refusal.specs.Number.{told}
 use Rattle.network.specs.declared.Network.{Network}
 use Rattle.network.specs.Checks.{checked, network_fault}
-use Rattle.network.specs.Describe.{end_values, image, write_causes, write_fault}
+use Rattle.network.specs.Describe.{end_values, image, write_fault}
 use Rattle.describe.proofs.answer.Goals as goal
 
 -- of the causes of a network that is written, the room's is the last
