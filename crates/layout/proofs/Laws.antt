@@ -9,8 +9,6 @@ use lib.ListN.{get_or, length, take, drop, length-append}
 use lib.Seq.{take_all, take-suc, get_or-take, get_or-drop}
 use Rattle.network.specs.declared.Port.{Port}
 use Rattle.network.specs.Format.{port_in}
-use Rattle.flight.specs.declared.Copy.{Copy}
-use Rattle.flight.specs.Flight.{unpack}
 use mathlib.Core.Bool.{true, ◌&&◌, and-eq-true_iff}
 use lib.Dec.{eqb}
 use borrow.Author.Tests.{eqb-true}
@@ -18,7 +16,7 @@ use Rattle.table.specs.Table.{slots, table_of}
 use Rattle.rules.specs.declared.Setup.{Setup}
 use Rattle.head.specs.Step.{switch_of}
 use Rattle.seat.specs.Seat.{cell_bytes, seat_of}
-use Rattle.layout.specs.Layout.{HoldsBench, HoldsNetwork, bench_fits, block, cells_at, copies_at, copy_in, host_in, hosts_at, in_block, link_in, links_at, listed, network_fits, nonces_at, seat_in, setup_in, slot_hops_at, slot_ports_at, switch_in, switches_at}
+use Rattle.layout.specs.Layout.{HoldsBench, HoldsNetwork, bench_fits, block, cells_at, host_in, hosts_at, in_block, link_in, links_at, listed, network_fits, nonces_at, seat_in, setup_in, slot_hops_at, slot_ports_at, switch_in, switches_at}
 
 -- ---- Lengths
 
@@ -109,21 +107,6 @@ link_is bytes i e f = rw (e, f, port_first links_at 4 i bytes (omega arith), por
 
 -- ---- A bench's parts
 
--- three numbers in a row
-pub three_there : (l : List ℕ) (n : ℕ) → n + 3 ≤ length l → get_or l n 0 ∷ get_or l (n + 1) 0 ∷ get_or l (n + 2) 0 ∷ [] ≡ take 3 (drop n l)
-three_there l n h = go n l h
-  where
-    go : (n : ℕ) (l : List ℕ) → n + 3 ≤ length l → get_or l n 0 ∷ get_or l (n + 1) 0 ∷ get_or l (n + 2) 0 ∷ [] ≡ take 3 (drop n l)
-    go zero [] h = absurd (omega arith)
-    go zero (a ∷ []) h = absurd (omega arith)
-    go zero (a ∷ b ∷ []) h = absurd (omega arith)
-    go zero (a ∷ b ∷ c ∷ l) h = refl
-    go (suc n) [] h = absurd (omega arith)
-    go (suc n) (a ∷ l) h =
-        let one : suc n + 1 ≡ suc (n + 1) = omega arith in
-        let two : suc n + 2 ≡ suc (n + 2) = omega arith in
-        rw (one, two) (go n l (omega arith))
-
 pub seat_is : (bytes masks words wides : List ℕ) (k : ℕ) {setup : Setup} {addresses ports hops cells : List ℕ} → setup ≡ setup_in bytes masks words k
     → addresses ≡ take slots (drop (slots * k) wides) → ports ≡ block slot_ports_at slots k bytes → hops ≡ block slot_hops_at slots k bytes → cells ≡ block cells_at cell_bytes k bytes
     → seat_of (switch_of setup (get_or words (nonces_at + k) 0) (table_of addresses ports hops)) cells ≡ seat_in bytes masks words wides k
@@ -131,8 +114,3 @@ unfolding seat_in
 seat_is bytes masks words wides k e a p h c =
     let first : 0 + slots * k ≡ slots * k = omega arith in
     rw (e, a, p, h, c, first)
-
-pub copy_is : (l : List ℕ) (i : ℕ) {c : Copy} → copies_at + 3 * i + 3 ≤ length l
-    → c ≡ unpack (get_or l (copies_at + 3 * i) 0 ∷ get_or l (copies_at + 3 * i + 1) 0 ∷ get_or l (copies_at + 3 * i + 2) 0 ∷ []) → c ≡ copy_in l i
-unfolding copy_in
-copy_is l i h e = e ∙ ap unpack (three_there l (copies_at + 3 * i) h)

@@ -1,5 +1,5 @@
 -- The loops' invariants, each a record over the values at the loop's head, with the laws that start it, carry it on and end it.
-use Prim.Native.Nat.{ℕ, zero, suc, ◌+◌, ◌-◌, ◌*◌, ◌<◌, ◌≤◌}
+use Prim.Native.Nat.{ℕ, zero, suc, ◌+◌, ◌*◌, ◌<◌, ◌≤◌}
 use mathlib.Core.Path.{◌≡◌, refl, sym, ap, ◌∙◌}
 use mathlib.Core.List.{List, [], ◌∷◌, ◌++◌, map, flat_map, append_assoc, append-nil}
 use native.Mathlib.Nat.{mul-suc, mul-zero}
@@ -11,12 +11,12 @@ use Rattle.core.specs.Array.{IsFromFnResult, IsFromFnResultFrom}
 use native.Mathlib.Omega.{arith}
 use native.Mathlib.Numerals.{add-one}
 use lib.ListN.{get_or, length, take, drop, set, length-append, length-drop, length-take, drop_of_length-le}
-use lib.Seq.{append_snoc, drop-cons, paste-zero, set_at, set_split, take_all, take-suc}
-use Rattle.wire.specs.Wire.{put, put_in}
-use Rattle.wire.proofs.Laws.{put_fits, put_put}
+use lib.Seq.{append_snoc, paste-zero, set_split, take_all, take-suc}
+use Rattle.wire.specs.Wire.{put}
+use Rattle.wire.proofs.Laws.{put_put}
 use Rattle.seat.specs.declared.Seat.{Seat}
 use Rattle.layout.specs.Layout.{listed}
-use Rattle.layout.proofs.Laws.{listed_all, listed_length, listed_same, same_there}
+use Rattle.layout.proofs.Laws.{listed_all, listed_same, same_there}
 
 -- what the code reads behind an array of heads: nothing but zeros, and no slot or cell
 abbrev pub blank : Seat
@@ -47,31 +47,11 @@ module _ {start : List ℕ} {at : ℕ} where
 pub set_put : (l : List ℕ) (at v : ℕ) → at < length l → set l at v ≡ put l at (v ∷ [])
 set_put l at v h = set_split l at v h ∙ rw add-one (sym (append_snoc (take at l) v (drop (suc at) l)))
 
--- numbers put behind others are put with them
-pub put_twice : (l : List ℕ) (at : ℕ) (a b : List ℕ) {between after : List ℕ} → between ≡ put l at a → after ≡ put between (at + length a) b
-    → at + (length a + length b) ≤ length l → after ≡ put l at (a ++ b)
-put_twice l at a b p q room = q ∙ rw p (put_put l at a b room)
-
 -- an array that numbers fill wholly
 pub laid_whole : {start ws buffer : List ℕ} → Laying start 0 ws buffer → length ws ≡ length start → buffer ≡ ws
 laid_whole {start} {ws} r e =
     let none : drop (0 + length ws) start ≡ [] = drop_of_length-le start {i = 0 + length ws} (omega arith) in
     r.so_far ∙ rw none (append-nil ws)
-
--- a row of an array, put into a row of its own
-module _ (row l : List ℕ) (at w : ℕ) {end : ℕ} (e : end ≡ at + w) (room : end ≤ length l) (long : length row ≡ w) where
-  pub row_fits : 0 + length (take (end - at) (drop at l)) ≤ length row
-  row_fits = simp (length-take, length-drop) (omega arith)
-
-  pub row_read : put row 0 (take (end - at) (drop at l)) ≡ take w (drop at l)
-  row_read =
-      let k : end - at ≡ w = omega arith in
-      let wide : length (take w (drop at l)) ≡ w = simp (length-take, length-drop) (omega arith) in
-      let none : drop (0 + length (take w (drop at l))) row ≡ [] = drop_of_length-le row {i = 0 + length (take w (drop at l))} (omega arith) in
-      rw (k, none) (append-nil (take w (drop at l)))
-
-  pub row_read_in : put_in row 0 (take (end - at) (drop at l)) ≡ take w (drop at l)
-  row_read_in = put_fits row 0 (take (end - at) (drop at l)) row_fits ∙ row_read
 
 -- ---- Laying the values of an array, each as w numbers
 

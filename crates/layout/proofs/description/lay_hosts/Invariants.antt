@@ -1,5 +1,4 @@
 -- Host after host, two bytes are put behind those of the hosts before it, and an address.
-use Prim.Native.Nat.{◌-◌, ◌≤◌}
 use Rattle.network.specs.Network.{no_host}
 use Rattle.layout.specs.Layout.{host_bytes, hosts_at}
 use Rattle.layout.proofs.Loops.{Column, Rows}

@@ -1,5 +1,4 @@
 -- Link after link, four bytes are put behind those of the links before it.
-use Prim.Native.Nat.{◌-◌, ◌≤◌}
 use Rattle.network.specs.Network.{no_link}
 use Rattle.layout.specs.Layout.{link_bytes, links_at}
 use Rattle.layout.proofs.Loops.{Rows}

@@ -1,5 +1,4 @@
 -- Switch after switch, two bytes are put behind those of the switches before it, and a salt.
-use Prim.Native.Nat.{◌-◌, ◌≤◌}
 use Rattle.network.specs.Network.{no_switch}
 use Rattle.layout.specs.Layout.{switch_bytes, switches_at}
 use Rattle.layout.proofs.Loops.{Column, Rows}

@@ -1,5 +1,4 @@
 -- Head after head, 640 bytes are put behind those of the heads before it.
-use Prim.Native.Nat.{◌-◌, ◌≤◌}
 use Rattle.bench.specs.Bench.{no_seat}
 use Rattle.layout.specs.Layout.{cells_at}
 use Rattle.layout.proofs.Loops.{Rows}

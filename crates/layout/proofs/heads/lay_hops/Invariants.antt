@@ -1,5 +1,4 @@
 -- Head after head, 64 numbers are put behind those of the heads before it.
-use Prim.Native.Nat.{◌-◌, ◌≤◌}
 use Rattle.bench.specs.Bench.{no_seat}
 use Rattle.layout.specs.Layout.{slot_hops_at}
 use Rattle.layout.proofs.Loops.{Rows}

@@ -1,5 +1,4 @@
 -- Head after head, one number is put behind those of the heads before it, in each of three arrays.
-use Prim.Native.Nat.{◌-◌, ◌≤◌}
 use Rattle.bench.specs.Bench.{no_seat}
 use Rattle.layout.specs.Layout.{host_masks_at, limits_at, nonces_at}
 use Rattle.layout.proofs.Loops.{Column}

@@ -1,5 +1,5 @@
 -- Copy after copy, its three words are put behind those of the copies before it.
-use Prim.Native.Nat.{ℕ, ◌-◌, ◌<◌, ◌≤◌}
+use Prim.Native.Nat.{ℕ, ◌<◌}
 use lib.ListN.{get_or}
 use Rattle.flight.specs.Flight.{Ranged, no_copy, pack}
 use Rattle.layout.specs.Layout.{copies_at}

@@ -1,5 +1,4 @@
 -- State after state is put behind those before it.
-use Prim.Native.Nat.{◌-◌, ◌≤◌}
 use Rattle.layout.proofs.Loops.{Column}
 use mathlib.Core.Bool.{false}
 use Rattle.frame.specs.Header.{bit}
