@@ -62,6 +62,10 @@ unfoldable pub slot_of : ℕ → List ℕ → ℕ
 slot_of x [] = 0
 slot_of x (y ∷ ys) = cond (eqb y x) 0 (suc (slot_of x ys))
 
+-- a place of a list, none from its length on
+unfoldable pub place_in : List ℕ → ℕ → Option ℕ
+place_in l i = cond (ltb i (length l)) (Some i) None
+
 -- a search that passed i slots, none of which has x, goes on with the rest
 pub record Passed (x : ℕ) (l : List ℕ) (i : ℕ) : Type 0 where
   pub within : i ≤ length l

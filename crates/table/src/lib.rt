@@ -5,7 +5,7 @@
 #![tactic(auto)]
 
 ghost use Rattle.std.specs.Prelude.{false, ◌≡◌, ◌<◌};
-ghost use Rattle.table.specs.Table.{Sized, NoneOf, Passed, address_at, empty_table, erase_of, learn_of, learned_of, lookup_of, mark_of, marks, may_hold, put, slot_fits, slot_for, slot_of, slots, well_formed};
+ghost use Rattle.table.specs.Table.{Sized, NoneOf, Passed, address_at, empty_table, erase_of, learn_of, learned_of, lookup_of, mark_of, marks, may_hold, place_in, put, slot_fits, slot_for, slot_of, slots, well_formed};
 
 // Slot i is place i of the three arrays, and an empty slot is zero in all three.
 #[derive(Clone, Copy, PartialEq, Eq)]
@@ -41,44 +41,38 @@ impl Table {
     }
 
     // What was learned of an address. Zero finds nothing, though every empty slot has it.
-    #[tactic(auto, unfolding(crate::specs::Table::lookup_of, crate::specs::Table::found_at))]
+    #[tactic(auto, unfolding(crate::specs::Table::lookup_of, crate::specs::Table::found_at, crate::specs::Table::place_in))]
     pub fn lookup(&self, address: u64) -> Option<Entry>
         ensures { result ≡ lookup_of self.now address }
     {
         if address == 0 {
             return None;
         }
-        let own = slot_of(&self.addresses, address);
-        if own < Table::SLOTS {
-            Some(Entry {
-                port: self.ports[own],
-                hops: self.hops[own],
-            })
-        } else {
-            None
-        }
+        let own = slot_of(&self.addresses, address)?;
+        Some(Entry {
+            port: self.ports[own],
+            hops: self.hops[own],
+        })
     }
 
     // An address stands behind a port, hc hops away. True where the table was full, so that nothing was learned.
-    #[tactic(auto, unfolding(crate::specs::Table::learn_of, crate::specs::Table::learn_at))]
+    #[tactic(auto, unfolding(crate::specs::Table::learn_of, crate::specs::Table::learn_at, crate::specs::Table::place_in))]
     pub fn learn(&mut self, address: u64, port: u8, hc: u8) -> bool
         ensures { learned_of result self.new ≡ learn_of self.old address port hc }
     {
-        let slot = slot_for(&self.addresses, address);
-        if Table::SLOTS <= slot {
+        let Some(slot) = slot_for(&self.addresses, address) else {
             return true;
-        }
+        };
         self.put(slot, address, port, hc);
         false
     }
 
     // The address is forgotten: its slot is zeroed, so that its room is used again.
-    #[tactic(auto, unfolding(crate::specs::Table::erase_of, crate::specs::Table::erase_at))]
+    #[tactic(auto, unfolding(crate::specs::Table::erase_of, crate::specs::Table::erase_at, crate::specs::Table::place_in))]
     pub fn erase(&mut self, address: u64)
         ensures { self.new ≡ erase_of self.old address }
     {
-        let slot = slot_of(&self.addresses, address);
-        if slot < Table::SLOTS {
+        if let Some(slot) = slot_of(&self.addresses, address) {
             self.put(slot, 0, 0, 0);
         }
     }
@@ -112,7 +106,7 @@ impl Table {
     }
 
     // Whether slot i is empty, or holds what it may in its address's first slot. A mark that is not set spares the search.
-    #[tactic(auto, unfolding(crate::specs::Table::slot_fits))]
+    #[tactic(auto, unfolding(crate::specs::Table::slot_fits, crate::specs::Table::place_in))]
     fn slot_fits(&self, n: u8, i: usize, marked: bool) -> bool
         requires { (i < slots) × (marked ≡ false → slot_of (address_at self.now i) self.now.addresses ≡ i) }
         ensures { result ≡ slot_fits n self.now i }
@@ -123,7 +117,7 @@ impl Table {
         if address == 0 {
             return port == 0 && hc == 0;
         }
-        may_hold(n, address, port, hc) && (!marked || slot_of(&self.addresses, address) == i)
+        may_hold(n, address, port, hc) && (!marked || slot_of(&self.addresses, address) == Some(i))
     }
 }
 
@@ -153,26 +147,26 @@ fn passed(addresses: &[u64], address: u64) -> usize
     addresses.len() / 4 * 4
 }
 
-// The first place of an address, or the length.
-#[tactic(auto, using(crate::proofs::Slots::slot_here, crate::proofs::Slots::slot_next, crate::proofs::Slots::slot_end))]
-pub fn slot_of(addresses: &[u64], address: u64) -> usize
-    ensures { result ≡ slot_of address addresses.now }
+// The first place of an address. By index, since the search goes on from a place.
+#[tactic(auto, unfolding(crate::specs::Table::place_in), using(crate::proofs::Slots::slot_here, crate::proofs::Slots::slot_next, crate::proofs::Slots::slot_end))]
+pub fn slot_of(addresses: &[u64], address: u64) -> Option<usize>
+    ensures { result ≡ place_in addresses.now (slot_of address addresses.now) }
 {
     for slot in passed(addresses, address)..addresses.len() {
         if addresses[slot] == address {
-            return slot;
+            return Some(slot);
         }
     }
-    addresses.len()
+    None
 }
 
-// Where an address is learned: its own slot, else the lowest empty one, else the length.
-#[tactic(auto, unfolding(crate::specs::Table::slot_for))]
-pub fn slot_for(addresses: &[u64], address: u64) -> usize
-    ensures { result ≡ slot_for address addresses.now }
+// Where an address is learned: its own slot, else the lowest empty one.
+#[tactic(auto, unfolding(crate::specs::Table::slot_for, crate::specs::Table::place_in))]
+pub fn slot_for(addresses: &[u64], address: u64) -> Option<usize>
+    ensures { result ≡ place_in addresses.now (slot_for address addresses.now) }
 {
     let known = slot_of(addresses, address);
-    if known < addresses.len() {
+    if known.is_some() {
         return known;
     }
     slot_of(addresses, 0)
