@@ -1,5 +1,5 @@
 -- The heads of a fresh run, once they follow, are those of a fresh bench.
-use Prim.Native.Nat.{ℕ, zero, suc, ◌+◌, ◌-◌, ◌<◌, ◌≤◌}
+use Prim.Native.Nat.{ℕ, zero, suc, ◌+◌, ◌-◌, ◌≤◌}
 use mathlib.Core.Path.{◌≡◌, refl, sym, ap, ap₂, ◌∙◌}
 use mathlib.Core.Logic.{by_cases}
 use mathlib.Core.Bool.{Bool}
@@ -8,21 +8,15 @@ use native.Mathlib.Decide.{dec_lt}
 use native.Mathlib.Numerals.{add-one}
 use native.Mathlib.Omega.{arith}
 use borrow.Author.Tests.{lt-ltb, le-ltb}
-use lib.ListN.{get_or, length, length-append, replicate}
+use lib.ListN.{length, length-append, replicate}
 use lib.Seq.{append_snoc}
 use Rattle.network.specs.declared.Network.{Network}
 use Rattle.network.specs.Network.{most_switches, padded}
 use Rattle.cabling.specs.Cabling.{plugs_of, setup_of}
-use Rattle.rules.specs.declared.Setup.{Setup}
 use Rattle.seat.specs.declared.Seat.{Seat}
-use Rattle.seat.specs.Seat.{fresh_seat, with_setup}
+use Rattle.seat.specs.Seat.{fresh_seat}
 use Rattle.bench.specs.Bench.{fresh_heads, no_seat}
 use Rattle.bench.specs.Events.{follow}
-
--- whatever setup a fresh head is given, it is the fresh head of that setup
-pub fresh_with : (setup s : Setup) → with_setup setup (fresh_seat s) ≡ fresh_seat setup
-unfolding fresh_seat
-fresh_with setup s = refl
 
 module _ (n : Network) where
   -- the heads from k on, of m places
