@@ -13,7 +13,8 @@ ghost use Rattle.event.specs.Event.{address_in, address_of, byte_of, event_fault
 
 use refusal::Refusal;
 
-// An address, as its bytes stand in a frame.
+// An address, as its bytes stand in a frame: by name, as the definitions and a copy's words have
+// them.
 #[derive(Clone, Copy, PartialEq, Eq)]
 pub struct Address {
     pub b0: u8,

@@ -14,7 +14,7 @@ pub(crate) fn count(n: &Network) -> usize
     n.nswitches as usize + n.nhosts as usize + n.nlinks as usize
 }
 
-// Record i of the network's description.
+// Record i of the network's description: by number, since the records run through three arrays.
 pub(crate) fn record_at(n: &Network, i: usize) -> Record
     requires { i < length (records n.now) }
     ensures { result ≡ get_or (records n.now) i (Record.Switch no_switch) }
