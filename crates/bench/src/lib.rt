@@ -36,7 +36,8 @@ pub struct Bench {
     pub flying: usize,
 }
 
-// All heads' ports, limits, salts and masks follow from description and link states.
+// All heads' ports, limits, salts and masks follow from description and link states. By number: a
+// head's setup is asked for by it, and places behind the last head stay.
 fn follow(n: &Network, plugs: &[u8], up: &[bool], seats: &mut [Seat])
     requires { (plugs.now ≡ plugs_of n.now) × (n.now.nswitches ≤ length seats.old) }
     ensures { seats.new ≡ spec.follow n.now up.now 0 seats.old }

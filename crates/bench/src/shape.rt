@@ -23,7 +23,8 @@ fn seat_fits(network: &Network, plugs: &[u8], up: &[bool], switch: u8, seat: &Se
     seat.switch.setup == setup_of(network, plugs, up, switch) && seat.check().is_ok()
 }
 
-// All heads fit.
+// All heads fit, by number: a head's setup is asked for by it, and places behind the last head aren't
+// looked at.
 pub fn seats_fit(network: &Network, up: &[bool], seats: &[Seat]) -> bool
     requires { network.now.nswitches ≤ length seats.now }
     ensures test { result ≡ seats_fit network.now up.now seats.now network.now.nswitches }
