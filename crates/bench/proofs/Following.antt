@@ -79,22 +79,6 @@ pub record Followed (n : Network) (up : List Bool) (before after : List Seat) (k
   pub left : (j : ℕ) → k ≤ j → get_or after j no_seat ≡ get_or before j no_seat
 
 module _ {n : Network} {up : List Bool} {before : List Seat} where
-  pub none_followed : Followed n up before before 0
-  none_followed = record { long = refl; done = λ j h. absurd (omega arith); left = λ j h. refl }
-
-  pub one_followed : {after : List Seat} {k : ℕ} {t : Seat} {w : Setup} {ps : List ℕ} → Followed n up before after k → k < length after
-      → ps ≡ plugs_of n → w ≡ setup_of n ps up k → t ≡ with_setup w (get_or after k no_seat) → Followed n up before (set after k t) (k + 1)
-  one_followed {after} {k} {t} {w} {ps} v inside p q e =
-      let setup : w ≡ setup_of n (plugs_of n) up k = q ∙ ap (λ l. setup_of n l up k) p in
-      let old : get_or after k no_seat ≡ get_or before k no_seat = v.left k (omega arith) in
-      record {
-        long = length-set after k t ∙ v.long;
-        done = λ j l. by_cases (ℕ_discrete j k)
-            (λ d. rw d (get_or-set_same after k t no_seat inside ∙ e ∙ (λ i. with_setup (setup i) (old i))))
-            (λ d. get_or-set_other after k j t no_seat d ∙ v.done j (omega arith));
-        left = λ j l. get_or-set_other after k j t no_seat (λ d. omega arith) ∙ v.left j (omega arith);
-      }
-
   pub all_followed : {after : List Seat} {k : ℕ} → Followed n up before after k → k ≤ n.nswitches → n.nswitches ≤ k → after ≡ follow n up 0 before
   all_followed {after} {k} v within past = ext_get_or no_seat after (follow n up 0 before) (v.long ∙ sym (follow_length n up 0 before)) each
     where

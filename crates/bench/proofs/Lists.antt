@@ -1,10 +1,10 @@
 -- Arrays: what stands at a place, and a list that fills one from its start.
-use Prim.Native.Nat.{ℕ, zero, suc, ◌+◌, ◌-◌, ◌<◌, ◌≤◌}
-use mathlib.Core.Path.{◌≡◌, refl, sym, ap, ◌∙◌}
-use mathlib.Core.List.{List, [], ◌∷◌, ◌++◌}
+use Prim.Native.Nat.{ℕ, zero, suc, ◌-◌, ◌<◌, ◌≤◌}
+use mathlib.Core.Path.{◌≡◌, refl}
+use mathlib.Core.List.{List, [], ◌∷◌}
 use native.Mathlib.Omega.{arith}
-use lib.ListN.{get_or, length, length-append, length-replicate, replicate, set, take}
-use lib.Seq.{append_snoc, set-append_seam, take-append_seam}
+use lib.ListN.{get_or, length, length-append, length-replicate, replicate, take}
+use lib.Seq.{take-append_seam}
 use Rattle.network.specs.Network.{padded}
 
 module _ {A : Type 0} where
@@ -20,11 +20,3 @@ module _ {A : Type 0} where
 
   pub padded_front : (d : A) (m : ℕ) (xs : List A) → take (length xs) (padded d m xs) ≡ xs
   padded_front d m xs = take-append_seam xs (replicate (m - length xs) d)
-
-  -- one more joins
-  pub padded_next : (d : A) (m : ℕ) (xs : List A) (x : A) → length xs < m → set (padded d m xs) (length xs) x ≡ padded d m (xs ++ (x ∷ []))
-  padded_next d m xs x h =
-      let left : m - length xs ≡ suc (m - (length xs + 1)) = omega arith in
-      let long : length (xs ++ (x ∷ [])) ≡ length xs + 1 = length-append xs (x ∷ []) in
-      ap (λ n. set (xs ++ replicate n d) (length xs) x) left ∙ set-append_seam xs d (replicate (m - (length xs + 1)) d) x
-      ∙ sym (append_snoc xs x (replicate (m - (length xs + 1)) d)) ∙ ap (λ n. (xs ++ (x ∷ [])) ++ replicate (m - n) d) (sym long)

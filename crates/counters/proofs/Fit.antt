@@ -1,7 +1,7 @@
 -- The test of counters finds exactly what `CountersFit` says.
 use Prim.Native.Nat.{ℕ, ◌+◌, ◌*◌, ◌≤◌}
-use mathlib.Core.Path.{◌≡◌, refl, ◌∙◌}
-use mathlib.Core.Bool.{Bool, true, false, ◌&&◌, and-eq-true_iff}
+use mathlib.Core.Path.{◌≡◌, ◌∙◌}
+use mathlib.Core.Bool.{Bool, true, ◌&&◌, and-eq-true_iff}
 use borrow.Author.Tests.{eq-eqb, eqb-true, le-leb, leb-true}
 use lib.Dec.{eqb, leb}
 use Rattle.counters.specs.Counters.{CountersFit, counters_fit}
@@ -32,11 +32,3 @@ found_fit flying c e =
     let few : ℕ → Bool = λ n. leb n (8 * c.accepted) in
     let (t, k, l, d, o, b) = each (few c.taken) (few c.cut) (few c.lost) (few c.delivered) (few c.overwritten) (eqb c.placed (c.taken + c.cut + flying)) e in
     record { taken = leb-true _ _ t; cut = leb-true _ _ k; lost = leb-true _ _ l; delivered = leb-true _ _ d; overwritten = leb-true _ _ o; balance = eqb-true _ _ b }
-
--- what doesn't fit isn't found to
-pub unfit : (flying : ℕ) (c : Counters) → (CountersFit flying c → ⊥) → false ≡ counters_fit flying c
-unfit flying c out = by_test (counters_fit flying c) refl
-  where
-    by_test : (t : Bool) → counters_fit flying c ≡ t → false ≡ t
-    by_test true e = absurd (out (found_fit flying c e))
-    by_test false e = refl

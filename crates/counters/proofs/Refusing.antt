@@ -1,8 +1,7 @@
 -- 34 decides before 28, and 28 before the event's own causes; a refused event leaves everything as it was.
-use Prim.Native.Nat.{ℕ, zero, suc, ◌^◌, ◌≤◌, ◌<◌}
+use Prim.Native.Nat.{ℕ, zero, suc, ◌≤◌, ◌<◌}
 use mathlib.Core.Path.{◌≡◌, refl, sym, ◌∙◌}
 use mathlib.Core.Bool.{Bool, true, false, cond}
-use native.Mathlib.Omega.{arith}
 use borrow.Author.Tests.{le-leb, lt-leb}
 use Rattle.std.specs.Prelude.{Ok, Err}
 use Rattle.refusal.specs.Refusal.{first}
@@ -16,8 +15,8 @@ use Rattle.turn.specs.Turn.{own_causes, own_refusal}
 use Rattle.bench.specs.declared.Bench.{Bench}
 use Rattle.bench.specs.Events.{event_of, happened_as}
 use Rattle.bench.specs.Shape.{in_shape}
-use Rattle.counters.specs.Counters.{Below, adds, counters_fit, plus}
-use Rattle.counters.specs.Event.{Passes, event_refusal, happens_as, happens_by, happens_of, most_events, refusal_numbered}
+use Rattle.counters.specs.Counters.{adds, counters_fit, plus}
+use Rattle.counters.specs.Event.{event_refusal, happens_as, happens_by, happens_of, most_events, refusal_numbered}
 use Rattle.counters.specs.declared.Counters.{Counters}
 
 -- a number that has a refusal of the event's
@@ -49,18 +48,9 @@ module _ (b : Bench) (c : Counters) (e : Event) where
   unfolding event_refusal
   late h = rw (le-leb most_events c.accepted h)
 
-  module _ (early : c.accepted < most_events) where
-    pub bench_out : in_shape b ≡ false → event_refusal b c e ≡ 28
-    unfolding event_refusal
-    bench_out s = rw (lt-leb most_events c.accepted early, s)
-
-    pub counters_out : in_shape b ≡ true → counters_fit b.flying c ≡ false → event_refusal b c e ≡ 28
-    unfolding event_refusal
-    counters_out s f = rw (lt-leb most_events c.accepted early, s, f)
-
-    pub in_shape_own : in_shape b ≡ true → counters_fit b.flying c ≡ true → event_refusal b c e ≡ own_refusal b.network b.flying e
-    unfolding event_refusal own_refusal
-    in_shape_own s f = rw (lt-leb most_events c.accepted early, s, f)
+  pub in_shape_own : c.accepted < most_events → in_shape b ≡ true → counters_fit b.flying c ≡ true → event_refusal b c e ≡ own_refusal b.network b.flying e
+  unfolding event_refusal own_refusal
+  in_shape_own early s f = rw (lt-leb most_events c.accepted early, s, f)
 
   -- refused with a number
   refused_by : (n : ℕ) → (n ≡ 0 → ⊥) → happens_as b c (Err (refusal_numbered n)) ≡ happens_by n b e c
@@ -80,15 +70,3 @@ module _ (b : Bench) (c : Counters) (e : Event) where
       → happens_as b' c (Ok (record { done = done; counters = k })) ≡ happens_of b e c
   unfolding happens_of
   accepted_happens accepted happened added summed = rw (accepted, summed, added, ← happened)
-
-  -- counters that fit are small
-  pub passes_below : Passes b c e → Below (2 ^ 63) c
-  passes_below p = record {
-    placed = omega (arith, p.accepted.shape.few);
-    taken = omega arith;
-    cut = omega arith;
-    lost = omega arith;
-    delivered = omega arith;
-    overwritten = omega arith;
-    accepted = omega arith;
-  }
