@@ -1,4 +1,3 @@
 pub mod Doors
 mod Freshening
-pub mod Putting
 pub mod Telling

@@ -19,10 +19,6 @@ pub tells_kept : {A : Type 0} (m n : ℕ) (vs : List ℕ) (old new : A) → (len
 tells_kept m zero vs old new some e = absurd (some (sym (ap (λ (t : Told). length t.values) e)))
 tells_kept m (suc n) vs old new some e = refl
 
-pub tells_given : (n : ℕ) (vs ws old : List ℕ) → tells 0 ws ≡ answered n vs → ws ≡ leaves n old vs
-tells_given zero vs ws old e = ap (λ (t : Told). t.values) e
-tells_given (suc n) vs ws old e = let z : 0 ≡ suc n = ap (λ (t : Told). t.number) e in absurd (omega (arith, z))
-
 -- a single value goes into a reference
 pub tells_one : (n x y old : ℕ) → tells 0 (x ∷ []) ≡ answered n (y ∷ []) → x ≡ leaves n old y
 tells_one zero x y old e = ap (λ (t : Told). get_or t.values 0 0) e

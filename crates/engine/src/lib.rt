@@ -11,4 +11,3 @@
 
 pub mod frames;
 pub mod heads;
-pub mod numbers;
