@@ -5,6 +5,8 @@
 // and its answer printed; a line that is no call is answered as unreadable.
 #![tactic(auto)]
 
+ghost use Rattle.std.specs.Prelude.{◌≤◌, length, IfOk};
+
 mod benches;
 mod frames;
 mod heads;
@@ -55,7 +57,9 @@ fn answer(rt: &impl Print, line: &[u8]) -> io::Result<()> {
 }
 
 // Answers the lines that stand in the input, and says where what is left of it begins.
-fn answer_all(rt: &impl Print, input: &[u8]) -> io::Result<usize> {
+fn answer_all(rt: &impl Print, input: &[u8]) -> io::Result<usize>
+    ensures { IfOk result (λ from. from ≤ length input.now) }
+{
     let mut from = 0;
     for _ in 0..input.len() {
         let rest = &input[from..];
