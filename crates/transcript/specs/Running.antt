@@ -47,9 +47,8 @@ unfoldable pub turn_at : Network → Parts → Event → Turn
 turn_at n p e = turn_of n p.up (seated_at n p.up (head_at n p e) (get_or p.seats (head_at n p e) no_seat)) (copies_of p) e
 
 -- what an event needs
-pub record CanAct (n : Network) (plugs : List ℕ) (p : Parts) (e : Event) : Type 0 where
+pub record CanAct (n : Network) (p : Parts) (e : Event) : Type 0 where
   pub kept : Kept p.words p.flying
-  pub plugged : plugs ≡ plugs_of n
   pub can : refusal_at n p e ≡ 0 → CanTurn n (copies_of p) e
   pub few : refusal_at n p e ≡ 0 → head_at n p e < most_switches
 

@@ -4,7 +4,7 @@ ghost use Rattle.flight.specs.Flight.{most};
 ghost use Rattle.transcript.specs.Transcript.{line_for};
 ghost use Rattle.transcript.specs.Running.{Acts, CanAct, CanRun, Ran, fresh_parts};
 
-use cabling::{plugs_of, setup_of};
+use cabling::{Stand, setup_of};
 use event::{Event, letter_of, read_event, size_of};
 use flight::Copy;
 use lines::{Line, put_line, put_stop};
@@ -46,18 +46,17 @@ impl Parts {
 
     // An event on a bench in shape: its own causes, then the turn of its head, under the masks that
     // the links give.
-    fn act(&mut self, network: &Network, plugs: &[u8], e: Event) -> Result<Done, Refusal>
-        requires { CanAct network.now plugs.now self.old e }
-        ensures { Acts network.now self.old e result self.new }
+    fn act(&mut self, stand: &Stand, e: Event) -> Result<Done, Refusal>
+        requires { CanAct stand.now.network self.old e }
+        ensures { Acts stand.now.network self.old e result self.new }
     {
-        check_event(network, self.flying, e)?;
-        let k = head_of(network, &self.words, e);
-        let setup = setup_of(network, plugs, &self.up, k);
+        check_event(&stand.network, self.flying, e)?;
+        let k = head_of(&stand.network, &self.words, e);
+        let setup = setup_of(&stand.network, &stand.plugs, &self.up, k);
         let seat = &mut self.seats[k as usize];
         seat.set_up(setup);
         let t = turn(
-            network,
-            plugs,
+            stand,
             &mut self.up,
             seat,
             &mut self.words,
@@ -90,7 +89,7 @@ pub fn run(network: &Network, input: &[u8], start: usize, out: &mut [u8]) -> usi
     requires { CanRun network.now input.now out.old }
     ensures { Ran network.now input.now start out.old result out.new }
 {
-    let plugs = plugs_of(network);
+    let stand = Stand::new(*network);
     let mut parts = Parts::fresh();
     let mut number: u32 = 1;
     let mut at = start;
@@ -100,7 +99,7 @@ pub fn run(network: &Network, input: &[u8], start: usize, out: &mut [u8]) -> usi
         let Ok(e) = read_event(input, at) else {
             return put_stop(out, wrote);
         };
-        let answer = parts.act(network, &plugs, e);
+        let answer = parts.act(&stand, e);
         wrote = put_line(out, wrote, line_for(number, e, answer, parts.flying));
         at += size_of(e);
         number += 1;

@@ -1,22 +1,20 @@
 // A head's turn at an event, on the parts of a bench, all lent: the head, the links' states and the
-// packed copies, so that a run copies none of them. The plugs are those of the network, worked out
-// once for a whole run.
+// packed copies, so that a run copies none of them. The stand's plugs are worked out once for a
+// whole run.
 #![tactic(auto)]
 
 pub mod sending;
 
 ghost use Rattle.std.specs.Prelude.{Bool, List, ◌≡◌, ℕ, ◌<◌, length, take};
 ghost use Rattle.refusal.specs.Number.{refused_as};
-ghost use Rattle.network.specs.declared.Network.{Network};
 ghost use Rattle.network.specs.Network.{most_links};
-ghost use Rattle.cabling.specs.Cabling.{plugs_of};
 ghost use Rattle.flight.specs.Flight.{copies_in, without};
 ghost use Rattle.seat.specs.declared.Seat.{Seat};
 ghost use Rattle.turn.specs.Send.{Written};
 ghost use Rattle.turn.specs.Turn as spec;
 ghost use Rattle.turn.specs.Turn.{CanTake, CanTurn, Kept, Laid, Spares, Turns, head_of, host_of, port_to, presents, received_by, refusal_of, sets, staying, steps, takes, turn_of, verdict_of};
 
-use cabling::{End, port_of};
+use cabling::{End, Stand, port_of};
 use event::{Event, Setting};
 use flight::{Copy, copy_at, cut, take_out};
 use network::{Host, Network, Port};
@@ -111,7 +109,7 @@ fn port_to(n: &Network, c: Copy) -> Port
 
 // A head steps on an arrival, and what it sends goes out.
 fn step_head(
-    plugs: &[u8],
+    stand: &Stand,
     seat: &mut Seat,
     words: &mut [[u64; 3]],
     flying: usize,
@@ -119,12 +117,12 @@ fn step_head(
     a: Arrival,
 ) -> Turned
     requires { Kept words.old flying × (a.port < 16) }
-    ensures turns { (n : Network) (up : List Bool) → plugs.now ≡ plugs_of n → Turns (steps n up switch seat.old a (copies_in flying words.old)) up seat.new words.new result.flying result.done }
+    ensures turns { (up : List Bool) → Turns (steps stand.now.network up switch seat.old a (copies_in flying words.old)) up seat.new words.new result.flying result.done }
     ensures words { Written flying words.old result.flying words.new }
 {
     let r = seat.step(a);
     let v = r.verdict;
-    let s = send_out(plugs, switch, a, v, words, flying);
+    let s = send_out(&stand.plugs, switch, a, v, words, flying);
     Turned {
         done: Done::Stepped(Report {
             switch,
@@ -143,7 +141,7 @@ fn step_head(
 
 // Kind 4: a host presents a frame and its switch steps at once.
 fn present(
-    plugs: &[u8],
+    stand: &Stand,
     seat: &mut Seat,
     words: &mut [[u64; 3]],
     flying: usize,
@@ -151,32 +149,31 @@ fn present(
     to: u64,
 ) -> Turned
     requires { Kept words.old flying × (h.port.number < 16) }
-    ensures turns { (n : Network) (up : List Bool) → plugs.now ≡ plugs_of n → Turns (presents n up seat.old (copies_in flying words.old) h to) up seat.new words.new result.flying result.done }
+    ensures turns { (up : List Bool) → Turns (presents stand.now.network up seat.old (copies_in flying words.old) h to) up seat.new words.new result.flying result.done }
     ensures words { Laid (take flying words.old) words.old result.flying words.new }
 {
     let port = h.port;
     let a = seat.from_host(port.number, h.address, to);
-    step_head(plugs, seat, words, flying, port.switch, a)
+    step_head(stand, seat, words, flying, port.switch, a)
 }
 
 // Kind 5: the copy at a place is taken out, those behind move up one, its switch steps.
 fn take(
-    network: &Network,
-    plugs: &[u8],
+    stand: &Stand,
     seat: &mut Seat,
     words: &mut [[u64; 3]],
     flying: usize,
     place: usize,
 ) -> Turned
-    requires { Kept words.old flying × CanTake network.now (copies_in flying words.old) place }
-    ensures turns { (up : List Bool) → plugs.now ≡ plugs_of network.now → Turns (takes network.now up seat.old (copies_in flying words.old) place) up seat.new words.new result.flying result.done }
+    requires { Kept words.old flying × CanTake stand.now.network (copies_in flying words.old) place }
+    ensures turns { (up : List Bool) → Turns (takes stand.now.network up seat.old (copies_in flying words.old) place) up seat.new words.new result.flying result.done }
     ensures words { Laid (without place (take flying words.old)) words.old result.flying words.new }
 {
     let c = copy_at(words, place);
-    let port = port_to(network, c);
+    let port = port_to(&stand.network, c);
     let a = from_link(port.number, c.source, c.destination, c.header);
     take_out(words, flying, place);
-    step_head(plugs, seat, words, flying - 1, port.switch, a)
+    step_head(stand, seat, words, flying - 1, port.switch, a)
 }
 
 // What a link's state spares: all but the copies on it, where it is down.
@@ -228,24 +225,23 @@ pub fn head_of(network: &Network, words: &[[u64; 3]], e: Event) -> u8
 // A head takes its turn.
 #[tactic(auto, unfolding(crate::specs::Turn::turn_of, crate::specs::Turn::staying))]
 pub fn turn(
-    network: &Network,
-    plugs: &[u8],
+    stand: &Stand,
     up: &mut [bool],
     seat: &mut Seat,
     words: &mut [[u64; 3]],
     flying: usize,
     e: Event,
 ) -> Turned
-    requires { Kept words.old flying × (length up.old ≡ most_links) × (plugs.now ≡ plugs_of network.now) × CanTurn network.now (copies_in flying words.old) e }
-    ensures turns { Turns (turn_of network.now up.old seat.old (copies_in flying words.old) e) up.new seat.new words.new result.flying result.done }
+    requires { Kept words.old flying × (length up.old ≡ most_links) × CanTurn stand.now.network (copies_in flying words.old) e }
+    ensures turns { Turns (turn_of stand.now.network up.old seat.old (copies_in flying words.old) e) up.new seat.new words.new result.flying result.done }
     ensures words { Laid (staying e (take flying words.old)) words.old result.flying words.new }
 {
     match e {
         Event::Present(p) => {
-            let h = host_of(network, p.host);
-            present(plugs, seat, words, flying, h, p.to.number())
+            let h = host_of(&stand.network, p.host);
+            present(stand, seat, words, flying, h, p.to.number())
         }
-        Event::Take(place) => take(network, plugs, seat, words, flying, place as usize),
+        Event::Take(place) => take(stand, seat, words, flying, place as usize),
         Event::Link(s) => set_link(up, words, flying, s),
     }
 }

@@ -3,4 +3,4 @@ use Rattle.turn.proofs.Turning.{head_steps}
 use Rattle.turn.proofs.step_head.Goals as goal
 
 pub returns-clause-turns : goal.returns-clause-turns
-returns-clause-turns c n up same = head_steps n up _ _ _ _ c.step-r.ensures c.send_out-s.ensures.sent c.send_out-s.ensures.room same
+returns-clause-turns c up = head_steps c.args.stand.now.network up _ _ _ _ c.step-r.ensures c.send_out-s.ensures.sent c.send_out-s.ensures.room c.args.stand.now.cabled

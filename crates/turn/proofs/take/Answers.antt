@@ -20,9 +20,9 @@ step_head-requires c =
     (search rules, taken_port read c.from_link-a.ensures c.requires.1)
 
 pub returns-clause-turns : goal.returns-clause-turns
-returns-clause-turns c up same =
+returns-clause-turns c up =
     let read = read_there c.requires.0 c.requires.1 c.copy_at-c.ensures c.port_to-port.ensures in
-    turns_as (taken_is read c.from_link-a.ensures up c.args.seat.now c.take_out.ensures.copies) (c.step_head.ensures.turns c.args.network.now up same)
+    turns_as (taken_is read c.from_link-a.ensures up c.args.seat.now c.take_out.ensures.copies) (c.step_head.ensures.turns up)
 
 pub returns-clause-words : goal.returns-clause-words
 returns-clause-words c = laid_without (place_there c.requires.0 c.requires.1) (search rules) c.take_out.ensures c.step_head.ensures.words

@@ -1,9 +1,10 @@
 -- The words carry the copies in flight; the turn taken on them is the definition's, and then the heads follow.
-use mathlib.Core.Path.{◌≡◌}
+use mathlib.Core.Path.{◌≡◌, ap}
 use lib.ListN.{length, length-set}
 use borrow.Author.Rules.{rules}
 use native.Mathlib.Omega.{arith}
 use Rattle.flight.specs.Flight.{most}
+use Rattle.network.specs.declared.Network.{Network}
 use Rattle.bench.specs.Bench.{no_seat}
 use Rattle.bench.proofs.Described.{few_switches}
 use Rattle.bench.proofs.Happening.{can_turn_on, happens, head_inside, head_is, words_kept}
@@ -21,13 +22,13 @@ turn-t-requires c =
     let words = c.words_of-words in
     let whole : length words.result ≡ most = search rules in
     let b = c.args.self.now in
-    (words_kept b c.args.e c.requires words.ensures whole, search rules, c.plugs_of-plugs.ensures, can_turn_on b c.args.e c.requires words.ensures whole)
+    (words_kept b c.args.e c.requires words.ensures whole, search rules, rw c.new-stand.ensures (can_turn_on b c.args.e c.requires words.ensures whole))
 
 pub follow-requires : goal.follow-requires
 follow-requires c =
     let b = c.args.self.now in
     let whole : length b.seats ≡ 16 = search rules in
-    (c.plugs_of-plugs.ensures, omega (arith, few_switches b.network c.requires.shape.described, length-set b.seats c.head_of-k.result c.turn-t.new.seat))
+    omega (arith, few_switches b.network c.requires.shape.described, length-set b.seats c.head_of-k.result c.turn-t.new.seat, ap (λ (n : Network). n.nswitches) c.new-stand.ensures)
 
 pub returns : goal.returns
 returns c =
