@@ -13,7 +13,6 @@ use Rattle.network.specs.declared.Network.{Network}
 use Rattle.network.specs.Network.{most_switches}
 use Rattle.network.specs.Checks.{network_fault}
 use Rattle.network.proofs.Laws.{accepted_is_sound, switches_long}
-use Rattle.cabling.specs.Cabling.{plugs_of}
 use Rattle.flight.specs.Flight.{All, most, no_words}
 use Rattle.flight.proofs.Laws.{copies_length}
 use Rattle.event.specs.declared.Event.{Event}
@@ -89,11 +88,10 @@ module _ {n : Network} {p : Parts} {c : Counters} {many : ℕ} (v : Stands n p c
   there free = head_there n described p.up (copies_of p) copies_fit_lem e (as_many free)
 
   -- what an event asks: the head that it concerns is among sixteen
-  pub stands_can : {plugs : List ℕ} → plugs ≡ plugs_of n → CanAct n plugs p e
-  stands_can plugged =
+  pub stands_can : CanAct n p e
+  stands_can =
       record {
         kept = v.kept;
-        plugged = plugged;
         can = λ free. can_turn n described p.up (copies_of p) copies_fit_lem e (as_many free);
         few = λ free. omega (arith, there free, few_switches n described);
       }

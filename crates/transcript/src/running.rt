@@ -85,11 +85,10 @@ fn line_for(number: u32, e: Event, a: Result<Done, Refusal>, flying: usize) -> L
 }
 
 // The lines of the events from a place of the input on; where they end in the output.
-pub fn run(network: &Network, input: &[u8], start: usize, out: &mut [u8]) -> usize
-    requires { CanRun network.now input.now out.old }
-    ensures { Ran network.now input.now start out.old result out.new }
+pub fn run(stand: &Stand, input: &[u8], start: usize, out: &mut [u8]) -> usize
+    requires { CanRun stand.now.network input.now out.old }
+    ensures { Ran stand.now.network input.now start out.old result out.new }
 {
-    let stand = Stand::new(*network);
     let mut parts = Parts::fresh();
     let mut number: u32 = 1;
     let mut at = start;
@@ -99,7 +98,7 @@ pub fn run(network: &Network, input: &[u8], start: usize, out: &mut [u8]) -> usi
         let Ok(e) = read_event(input, at) else {
             return put_stop(out, wrote);
         };
-        let answer = parts.act(&stand, e);
+        let answer = parts.act(stand, e);
         wrote = put_line(out, wrote, line_for(number, e, answer, parts.flying));
         at += size_of(e);
         number += 1;

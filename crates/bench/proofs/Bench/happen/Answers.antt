@@ -38,4 +38,4 @@ returns c =
     let seats : length b.seats ≡ 16 = search rules in
     let inside = head_inside b c.args.e c.requires words.ensures whole c.head_of-k.ensures.accepted in
     happens b c.args.e c.requires words.ensures whole (head_is b c.args.e c.requires words.ensures whole c.head_of-k.ensures.accepted)
-    (same_there b.seats c.head_of-k.result _ no_seat (omega (arith, inside))) c.turn-t.ensures.turns c.follow.ensures c.copies_of-self.ensures
+    (same_there b.seats c.head_of-k.result _ no_seat (omega (arith, inside))) (rw c.new-stand.ensures at c.turn-t.ensures.turns) (rw c.new-stand.ensures at c.follow.ensures) c.copies_of-self.ensures

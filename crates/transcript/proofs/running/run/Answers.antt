@@ -19,7 +19,7 @@ returns-in_default c =
     going_stops c.requires c.loop-at.invariant c.loop-at-test.true (sym read ∙ c.in_default.is) c.put_stop.ensures.output c.put_stop.ensures.end
 
 pub act-answer-requires : goal.act-answer-requires
-act-answer-requires c = stands_can c.loop-at.invariant.stands c.in-Ok.e c.plugs_of-plugs.ensures
+act-answer-requires c = stands_can c.loop-at.invariant.stands c.in-Ok.e
 
 pub line_for-requires : goal.line_for-requires
 line_for-requires c = (kept_next c.loop-at.invariant.stands c.in-Ok.e c.act-answer.new.self c.act-answer.result c.act-answer.ensures).few

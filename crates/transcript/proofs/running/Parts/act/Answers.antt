@@ -29,7 +29,7 @@ lent n p k d is set_up plugged same within =
 pub returns : goal.returns
 unfolding turn_at
 returns c =
-    let n = c.args.network.now in
+    let n = c.args.stand.now.network in
     let p = c.args.self.now in
     let e = c.args.e in
     let k = c.head_of-k.result in
@@ -42,6 +42,6 @@ returns c =
       free = free;
       seat = t.new.seat;
       turns = subst (λ s. Turns (turn_of n p.up s (copies_of p) e) t.new.up t.new.seat t.new.words t.result.flying t.result.done)
-          (lent n p k _ c.set_up.ensures c.setup_of-setup.ensures c.requires.plugged is within) t.ensures.turns;
+          (lent n p k _ c.set_up.ensures c.setup_of-setup.ensures c.args.stand.now.cabled is within) t.ensures.turns;
       seats = ap (λ j. set p.seats j t.new.seat) is;
     }
