@@ -55,14 +55,7 @@ impl Parts {
         let setup = setup_of(&stand.network, &stand.plugs, &self.up, k);
         let seat = &mut self.seats[k as usize];
         seat.set_up(setup);
-        let t = turn(
-            stand,
-            &mut self.up,
-            seat,
-            &mut self.words,
-            self.flying,
-            e,
-        );
+        let t = turn(stand, &mut self.up, seat, &mut self.words, self.flying, e);
         self.flying = t.flying;
         Ok(t.done)
     }
