@@ -16,7 +16,7 @@ mod shape;
 
 use cabling::{Stand, setup_of};
 use event::Event;
-use flight::{Copy, copies_of, words_of};
+use flight::{Copy, Flight, copies_of, words_of};
 use network::Network;
 use refusal::Refusal;
 use rules::Setup;
@@ -96,19 +96,16 @@ impl Bench {
         ensures { happened_as self.new (Ok result) ≡ event_of self.old e }
     {
         let stand = Stand::new(self.network);
-        let mut words = words_of(&self.copies, self.flying);
-        let k = head_of(&self.network, &words, e) as usize;
-        let t = turn(
-            &stand,
-            &mut self.up,
-            &mut self.seats[k],
-            &mut words,
-            self.flying,
-            e,
-        );
+        let words = words_of(&self.copies, self.flying);
+        let mut flight = Flight {
+            words,
+            flying: self.flying,
+        };
+        let k = head_of(&self.network, &flight.words, e) as usize;
+        let done = turn(&stand, &mut self.up, &mut self.seats[k], &mut flight, e);
         follow(&stand, &self.up, &mut self.seats);
-        self.copies = copies_of(&words, t.flying);
-        self.flying = t.flying;
-        t.done
+        self.copies = copies_of(&flight.words, flight.flying);
+        self.flying = flight.flying;
+        done
     }
 }
