@@ -1,5 +1,5 @@
 -- The heads of a fresh run, once they follow, are those of a fresh bench.
-use Prim.Native.Nat.{ℕ, zero, suc, ◌+◌, ◌-◌, ◌<◌, ◌≤◌}
+use Prim.Native.Nat.{ℕ, zero, suc, ◌+◌, ◌-◌, ◌≤◌}
 use mathlib.Core.Path.{◌≡◌, refl, sym, ap, ap₂, ◌∙◌}
 use mathlib.Core.Logic.{by_cases}
 use mathlib.Core.Bool.{Bool}
@@ -8,7 +8,7 @@ use native.Mathlib.Decide.{dec_lt}
 use native.Mathlib.Numerals.{add-one}
 use native.Mathlib.Omega.{arith}
 use borrow.Author.Tests.{lt-ltb, le-ltb}
-use lib.ListN.{get_or, length, length-append, replicate}
+use lib.ListN.{length, length-append, replicate}
 use lib.Seq.{append_snoc}
 use Rattle.network.specs.declared.Network.{Network}
 use Rattle.network.specs.Network.{most_switches, padded}

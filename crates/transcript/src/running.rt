@@ -2,11 +2,11 @@
 ghost use Rattle.std.specs.Prelude.{◌≡◌, ◌≤◌};
 ghost use Rattle.flight.specs.Flight.{most};
 ghost use Rattle.transcript.specs.Transcript.{line_for};
-ghost use Rattle.transcript.specs.Running.{Acts, CanAct, CanRun, Ran, fresh_parts};
+ghost use Rattle.transcript.specs.Running.{Acts, CanAct, CanRun, FreshParts, Ran};
 
 use cabling::{Stand, setup_of};
 use event::{Event, letter_of, read_event, size_of};
-use flight::Copy;
+use flight::{Copy, Flight};
 use lines::{Line, put_line, put_stop};
 use network::Network;
 use refusal::Refusal;
@@ -19,15 +19,13 @@ use turn::{Done, check_event, head_of, received_by, refusal_of, turn, verdict_of
 struct Parts {
     up: [bool; Network::LINKS],
     seats: [Seat; Network::SWITCHES],
-    // The packed copies, and how many of them are in flight.
-    words: [[u64; 3]; Copy::MOST],
-    flying: usize,
+    flight: Flight,
 }
 
 impl Parts {
     // All links up, nothing learned, no copy in flight.
     fn fresh() -> Self
-        ensures { result ≡ fresh_parts }
+        ensures { FreshParts result }
     {
         let none = Seat::fresh(Setup {
             ports: 0,
@@ -39,8 +37,10 @@ impl Parts {
         Parts {
             up: [true; Network::LINKS],
             seats: [none; Network::SWITCHES],
-            words: [[0; 3]; Copy::MOST],
-            flying: 0,
+            flight: Flight {
+                words: [[0; 3]; Copy::MOST],
+                flying: 0,
+            },
         }
     }
 
@@ -50,14 +50,13 @@ impl Parts {
         requires { CanAct stand.now.network self.old e }
         ensures { Acts stand.now.network self.old e result self.new }
     {
-        check_event(&stand.network, self.flying, e)?;
-        let k = head_of(&stand.network, &self.words, e);
+        check_event(&stand.network, self.flight.flying, e)?;
+        let k = head_of(&stand.network, &self.flight.words, e);
         let setup = setup_of(&stand.network, &stand.plugs, &self.up, k);
         let seat = &mut self.seats[k as usize];
         seat.set_up(setup);
-        let t = turn(stand, &mut self.up, seat, &mut self.words, self.flying, e);
-        self.flying = t.flying;
-        Ok(t.done)
+        let done = turn(stand, &mut self.up, seat, &mut self.flight, e);
+        Ok(done)
     }
 }
 
@@ -92,7 +91,7 @@ pub fn run(stand: &Stand, input: &[u8], start: usize, out: &mut [u8]) -> usize
             return put_stop(out, wrote);
         };
         let answer = parts.act(stand, e);
-        wrote = put_line(out, wrote, line_for(number, e, answer, parts.flying));
+        wrote = put_line(out, wrote, line_for(number, e, answer, parts.flight.flying));
         at += size_of(e);
         number += 1;
     }
