@@ -7,7 +7,6 @@
 
 ghost use Rattle.std.specs.Prelude.{true, ◌≡◌, ◌<◌, ◌≤◌, length};
 ghost use Rattle.network.specs.Network.{most_switches};
-ghost use Rattle.cabling.specs.Cabling.{plugs_of};
 ghost use Rattle.bench.specs.Bench.{Freshens, fresh_bench};
 ghost use Rattle.bench.specs.Events as spec;
 ghost use Rattle.bench.specs.Events.{event_of, happened_as};
@@ -15,9 +14,9 @@ ghost use Rattle.bench.specs.Shape.{Accepted, InShape, in_shape};
 
 mod shape;
 
-use cabling::{plugs_of, setup_of};
+use cabling::{Stand, setup_of};
 use event::Event;
-use flight::{Copy, copies_of, words_of};
+use flight::{Copy, Flight, copies_of, words_of};
 use network::Network;
 use refusal::Refusal;
 use rules::Setup;
@@ -38,12 +37,12 @@ pub struct Bench {
 
 // All heads' ports, limits, salts and masks follow from description and link states. By number: a
 // head's setup is asked for by it, and places behind the last head stay.
-fn follow(n: &Network, plugs: &[u8], up: &[bool], seats: &mut [Seat])
-    requires { (plugs.now ≡ plugs_of n.now) × (n.now.nswitches ≤ length seats.old) }
-    ensures { seats.new ≡ spec.follow n.now up.now 0 seats.old }
+fn follow(stand: &Stand, up: &[bool], seats: &mut [Seat])
+    requires { stand.now.network.nswitches ≤ length seats.old }
+    ensures { seats.new ≡ spec.follow stand.now.network up.now 0 seats.old }
 {
-    for k in 0..n.nswitches {
-        let setup = setup_of(n, plugs, up, k);
+    for k in 0..stand.network.nswitches {
+        let setup = setup_of(&stand.network, &stand.plugs, up, k);
         seats[k as usize].set_up(setup);
     }
 }
@@ -63,7 +62,7 @@ impl Bench {
             salt: 0,
         });
         let mut seats = [none; Network::SWITCHES];
-        follow(n, &plugs_of(n), &up, &mut seats);
+        follow(&Stand::new(*n), &up, &mut seats);
         Bench {
             network: *n,
             up,
@@ -97,21 +96,17 @@ impl Bench {
         requires { Accepted self.old e }
         ensures { happened_as self.new (Ok result) ≡ event_of self.old e }
     {
-        let plugs = plugs_of(&self.network);
-        let mut words = words_of(&self.copies, self.flying);
-        let k = head_of(&self.network, &words, e) as usize;
-        let t = turn(
-            &self.network,
-            &plugs,
-            &mut self.up,
-            &mut self.seats[k],
-            &mut words,
-            self.flying,
-            e,
-        );
-        follow(&self.network, &plugs, &self.up, &mut self.seats);
-        self.copies = copies_of(&words, t.flying);
-        self.flying = t.flying;
-        t.done
+        let stand = Stand::new(self.network);
+        let words = words_of(&self.copies, self.flying);
+        let mut flight = Flight {
+            words,
+            flying: self.flying,
+        };
+        let k = head_of(&self.network, &flight.words, e) as usize;
+        let done = turn(&stand, &mut self.up, &mut self.seats[k], &mut flight, e);
+        follow(&stand, &self.up, &mut self.seats);
+        self.copies = copies_of(&flight.words, flight.flying);
+        self.flying = flight.flying;
+        done
     }
 }

@@ -1,12 +1,11 @@
 // What a bench in shape is asked for, refusal 28: heads and copies in flight, one by one.
 ghost use Rattle.std.specs.Prelude.{EachIndex, IsTrue, ◌↔◌, true, ◌≡◌, ℕ, ◌<◌, ◌≤◌, get_or, length};
-ghost use Rattle.cabling.specs.Cabling.{plugs_of};
 ghost use Rattle.flight.specs.Flight.{no_copy};
 ghost use Rattle.turn.specs.Fits.{SeatFits};
 ghost use Rattle.bench.specs.Bench.{no_seat};
 ghost use Rattle.bench.specs.Shape.{copies_fit, copy_fits, has_addresses, on_live_link, seat_fits, seats_fit};
 
-use cabling::{plugs_of, setup_of};
+use cabling::{Stand, setup_of};
 use flight::Copy;
 use frame::Frame;
 use network::Network;
@@ -15,12 +14,11 @@ use seat::Seat;
 
 // A head's setup follows from description and link states, and refusal 1 doesn't name it.
 #[tactic(auto, unfolding(crate::specs::Shape::seat_fits))]
-fn seat_fits(network: &Network, plugs: &[u8], up: &[bool], switch: u8, seat: &Seat) -> bool
-    requires { plugs.now ≡ plugs_of network.now }
-    ensures test { result ≡ seat_fits network.now up.now switch seat.now }
-    ensures fits { result ≡ true → SeatFits network.now up.now switch seat.now }
+fn seat_fits(stand: &Stand, up: &[bool], switch: u8, seat: &Seat) -> bool
+    ensures test { result ≡ seat_fits stand.now.network up.now switch seat.now }
+    ensures fits { result ≡ true → SeatFits stand.now.network up.now switch seat.now }
 {
-    seat.switch.setup == setup_of(network, plugs, up, switch) && seat.check().is_ok()
+    seat.switch.setup == setup_of(&stand.network, &stand.plugs, up, switch) && seat.check().is_ok()
 }
 
 // All heads fit, by number: a head's setup is asked for by it, and places behind the last head aren't
@@ -30,9 +28,9 @@ pub fn seats_fit(network: &Network, up: &[bool], seats: &[Seat]) -> bool
     ensures test { result ≡ seats_fit network.now up.now seats.now network.now.nswitches }
     ensures fit { result ≡ true → (k : ℕ) → k < network.now.nswitches → SeatFits network.now up.now k (get_or seats.now k no_seat) }
 {
-    let plugs = plugs_of(network);
+    let stand = Stand::new(*network);
     for k in 0..network.nswitches {
-        if !seat_fits(network, &plugs, up, k, &seats[k as usize]) {
+        if !seat_fits(&stand, up, k, &seats[k as usize]) {
             return false;
         }
     }

@@ -38,6 +38,23 @@ const FIRST_HOST: u8 = 1;
 
 const FIRST_LINK: u8 = 33;
 
+// A stand as it is cabled: its network, and what is plugged into each port, worked out once.
+#[derive(Drop)]
+pub struct Stand {
+    pub network: Network,
+    pub plugs: [u8; PLACES],
+    pub ghost cabled: { plugs ≡ plugs_of network },
+}
+
+impl Stand {
+    pub fn new(network: Network) -> Stand
+        ensures { result.network ≡ network }
+    {
+        let plugs = plugs_of(&network);
+        Stand { network, plugs }
+    }
+}
+
 // Where the number of a switch's port is kept.
 fn place_of(switch: u8, port: u8) -> usize
     ensures { result ≡ switch * most_ports + port }

@@ -75,6 +75,15 @@ impl Copy {
     }
 }
 
+// The copies in flight, packed, in the first places of an array.
+#[derive(Drop)]
+pub struct Flight {
+    pub words: [[u64; 3]; Copy::MOST],
+    pub flying: usize,
+    pub ghost whole: { length words ≡ most },
+    pub ghost few: { flying ≤ most },
+}
+
 // Of n copies, the one at a place is taken out, and those behind it move up one.
 #[tactic(auto, using(crate::proofs::Sweep::moved_starts, crate::proofs::Sweep::moved_next, crate::proofs::Sweep::moved_ends))]
 pub fn take_out(words: &mut [[u64; 3]], n: usize, place: usize)

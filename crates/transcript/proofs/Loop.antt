@@ -3,7 +3,7 @@ use Prim.Native.Nat.{ℕ, suc, ◌+◌, ◌*◌, ◌-◌, ◌<◌, ◌≤◌}
 use mathlib.Core.Path.{◌≡◌, refl, sym, ap, ap₂, subst, ◌∙◌}
 use mathlib.Core.List.{List, [], ◌∷◌, ◌++◌, append_assoc, append-nil}
 use native.Mathlib.Omega.{arith}
-use lib.ListN.{drop, drop_of_length-le, length, length-append, length-drop, length-replicate, length-set}
+use lib.ListN.{drop, drop_of_length-le, length, length-append, length-drop, length-set}
 use lib.Seq.{drop-drop}
 use Rattle.std.specs.Prelude.{Ok, Err}
 use Rattle.refusal.specs.declared.Refusal.{Refusal}
@@ -13,8 +13,7 @@ use Rattle.network.specs.declared.Network.{Network}
 use Rattle.network.specs.Network.{most_switches}
 use Rattle.network.specs.Checks.{network_fault}
 use Rattle.network.proofs.Laws.{accepted_is_sound, switches_long}
-use Rattle.cabling.specs.Cabling.{plugs_of}
-use Rattle.flight.specs.Flight.{All, most, no_words}
+use Rattle.flight.specs.Flight.{All}
 use Rattle.flight.proofs.Laws.{copies_length}
 use Rattle.event.specs.declared.Event.{Event}
 use Rattle.event.specs.Event.{read_event, size_of}
@@ -22,7 +21,7 @@ use Rattle.event.proofs.Laws.{size_range}
 use Rattle.lines.specs.declared.Line.{Line}
 use Rattle.lines.specs.Lines.{line_of, stop_line}
 use Rattle.lines.proofs.Laws.{stop_long}
-use Rattle.turn.specs.Turn.{Answer, Kept, own_refusal}
+use Rattle.turn.specs.Turn.{Answer, own_refusal}
 use Rattle.turn.proofs.Laws.{can_turn, head_there}
 use Rattle.turn.specs.Fits.{CopyFits}
 use Rattle.bench.specs.Events.{Happened, happened_as}
@@ -32,7 +31,7 @@ use Rattle.counters.specs.History.{State, after, fresh_state, happens_at, run_of
 use Rattle.counters.proofs.Laws.{InRun, event_accepted_in_run, event_in_run, fresh_in_run, run_accepts}
 use Rattle.transcript.specs.declared.running.Parts.{Parts}
 use Rattle.transcript.specs.Transcript.{line_at, line_for, lines_from, lines_in}
-use Rattle.transcript.specs.Running.{Acts, CanAct, CanRun, Ran, copies_of, fresh_parts, head_at, refusal_at}
+use Rattle.transcript.specs.Running.{Acts, CanAct, CanRun, FreshParts, Ran, copies_of, head_at, refusal_at}
 use Rattle.transcript.proofs.Printing.{line_short, lines_bad, lines_got, no_lines}
 use Rattle.transcript.proofs.Standing.{bench_on, event_on, flying_on, fresh_stands}
 
@@ -43,7 +42,6 @@ state_on n p c = record { bench = bench_on n p; counters = c }
 -- the run's own state: what it stands for is a state of a run, behind so many events
 pub record Stands (n : Network) (p : Parts) (c : Counters) (many : ℕ) : Type 0 where
   pub heads : length p.seats ≡ most_switches
-  pub kept : Kept p.words p.flying
   pub sound : InRun (state_on n p c)
   pub accepted : c.accepted ≤ many
 
@@ -80,20 +78,18 @@ module _ {n : Network} {p : Parts} {c : Counters} {many : ℕ} (v : Stands n p c
 
   copies_fit_lem : All (CopyFits n p.up) (copies_of p)
   unfolding bench_on
-  copies_fit_lem = subst (λ cs. All (CopyFits n p.up) cs) (flying_on n p v.kept) v.sound.shape.copies
+  copies_fit_lem = subst (λ cs. All (CopyFits n p.up) cs) (flying_on n p) v.sound.shape.copies
 
   as_many : refusal_at n p e ≡ 0 → own_refusal n (length (copies_of p)) e ≡ 0
-  as_many free = ap (λ m. own_refusal n m e) (copies_length p.flying p.words (omega (arith, v.kept.whole, v.kept.few))) ∙ free
+  as_many free = ap (λ m. own_refusal n m e) (copies_length p.flight.flying p.flight.words (omega (arith, p.flight.whole, p.flight.few))) ∙ free
 
   there : refusal_at n p e ≡ 0 → head_at n p e < n.nswitches
   there free = head_there n described p.up (copies_of p) copies_fit_lem e (as_many free)
 
   -- what an event asks: the head that it concerns is among sixteen
-  pub stands_can : {plugs : List ℕ} → plugs ≡ plugs_of n → CanAct n plugs p e
-  stands_can plugged =
+  pub stands_can : CanAct n p e
+  stands_can =
       record {
-        kept = v.kept;
-        plugged = plugged;
         can = λ free. can_turn n described p.up (copies_of p) copies_fit_lem e (as_many free);
         few = λ free. omega (arith, there free, few_switches n described);
       }
@@ -105,27 +101,22 @@ module _ {n : Network} {p : Parts} {c : Counters} {many : ℕ} (v : Stands n p c
     heads_next (Ok d) w = ap length w.seats ∙ length-set p.seats (head_at n p e) w.seat ∙ v.heads
     heads_next (Err r) w = ap (λ (x : Parts). length x.seats) w.same ∙ v.heads
 
-    pub kept_next : (a : Answer) → Acts n p e a q → Kept q.words q.flying
-    kept_next (Ok d) w = record { whole = w.turns.whole; few = w.turns.few }
-    kept_next (Err r) w = subst (λ (x : Parts). Kept x.words x.flying) (sym w.same) v.kept
-
     module _ (early : many < 1_000_000) (a : Answer) (acts : Acts n p e a q) where
       happens_on : (happens_at (state_on n p c) e).happened ≡ happened_as (bench_on n q) a
       unfolding bench_on
-      happens_on = event_on n p v.kept e c (event_accepted_in_run v.sound (omega (arith, v.accepted)) e) a q there (omega (arith, few_switches n described, v.heads)) acts
+      happens_on = event_on n p e c (event_accepted_in_run v.sound (omega (arith, v.accepted)) e) a q there (omega (arith, few_switches n described, v.heads)) acts
 
       pub after_on : after (state_on n p c) e ≡ state_on n q (happens_at (state_on n p c) e).counters
       unfolding after
       after_on = ap (λ (h : Happened). record { bench = h.bench; counters = (happens_at (state_on n p c) e).counters }) happens_on
 
-      pub line_on : (number : ℕ) {l : Line} → l ≡ line_for number e a q.flying → line_of l ≡ line_at number (state_on n p c) e
+      pub line_on : (number : ℕ) {l : Line} → l ≡ line_for number e a q.flight.flying → line_of l ≡ line_at number (state_on n p c) e
       unfolding bench_on
       line_on number is = ap line_of (is ∙ ap (λ (h : Happened). line_for number e h.answer h.bench.flying) (sym happens_on))
 
       pub stands_next : Stands n q (happens_at (state_on n p c) e).counters (many + 1)
       stands_next = record {
         heads = heads_next a acts;
-        kept = kept_next a acts;
         sound = subst (λ w. InRun w) after_on (event_in_run v.sound e);
         accepted = omega (arith, accepts_one (state_on n p c) e, v.accepted);
       }
@@ -136,19 +127,18 @@ put_long : (l bs : List ℕ) → length bs ≤ length l → length (put l 0 bs) 
 put_long l bs h = simp (length-append, length-drop) (omega arith)
 
 -- at first nothing is written
-pub going_starts : {n : Network} {input out : List ℕ} (start : ℕ) → CanRun n input out → Going n input start out out fresh_parts 1 start 0
+pub going_starts : {n : Network} {input out : List ℕ} {p : Parts} (start : ℕ) → FreshParts p → CanRun n input out → Going n input start out out p 1 start 0
 unfolding lines_from
-going_starts {n} {input} {out} start can =
-    let fresh : state_on n fresh_parts no_counts ≡ fresh_state n
-    = ap (λ b. record { bench = b; counters = no_counts }) (fresh_stands n (few_switches n can.accepted)) in
+going_starts {n} {input} {out} {p} start v can =
+    let fresh : state_on n p no_counts ≡ fresh_state n
+    = ap (λ b. record { bench = b; counters = no_counts }) (fresh_stands n v (few_switches n can.accepted)) in
     record {
       counters = no_counts;
       many = 0;
       turns = length input;
       written = [];
       stands = record {
-        heads = refl;
-        kept = record { whole = length-replicate most no_words; few = omega arith };
+        heads = ap length v.seats;
         sound = subst (λ w. InRun w) (sym fresh) (fresh_in_run n can.accepted);
         accepted = omega arith;
       };
@@ -215,7 +205,7 @@ module _ {n : Network} {input : List ℕ} {start : ℕ} {out₀ out : List ℕ} 
         }
 
     -- an event is read, its line is put, and the run goes on behind its record
-    module _ (e : Event) (got : read_event (drop at input) ≡ Ok e) (q : Parts) (a : Answer) (acts : Acts n p e a q) {l : Line} (is_l : l ≡ line_for number e a q.flying) where
+    module _ (e : Event) (got : read_event (drop at input) ≡ Ok e) (q : Parts) (a : Answer) (acts : Acts n p e a q) {l : Line} (is_l : l ≡ line_for number e a q.flight.flying) where
       line_here : line_of l ≡ line_at number now e
       unfolding now
       line_here = line_on v.stands e q (omega (arith, v.few)) a acts number is_l
@@ -223,7 +213,7 @@ module _ {n : Network} {input : List ℕ} {start : ℕ} {out₀ out : List ℕ} 
       pub line_fits : length (line_of l) ≤ 26
       unfolding now bench_on
       line_fits =
-          let short = line_short number now e (omega (arith, v.numbered, v.few)) v.stands.kept.few in
+          let short = line_short number now e (omega (arith, v.numbered, v.few)) p.flight.few in
           omega (arith, short, ap length line_here)
 
       pub going_next : {out' : List ℕ} {wrote' size number' at' : ℕ} → out' ≡ put out wrote (line_of l) → wrote' ≡ wrote + length (line_of l) → size ≡ size_of e

@@ -13,7 +13,7 @@ use Rattle.flight.specs.declared.Copy.{Copy}
 use Rattle.flight.specs.Flight.{copies_in, most, no_words}
 use Rattle.event.specs.declared.Event.{Event}
 use Rattle.turn.specs.declared.Done.{Done}
-use Rattle.turn.specs.Turn.{CanTurn, Kept, Turn, Turns, head_of, own_refusal, turn_of}
+use Rattle.turn.specs.Turn.{CanTurn, Turn, Turns, head_of, own_refusal, turn_of}
 use Rattle.bench.specs.Bench.{all_up, no_seat}
 use Rattle.transcript.specs.Transcript.{lines_from, most_printed}
 use Rattle.transcript.specs.declared.running.Parts.{Parts}
@@ -21,18 +21,21 @@ use Rattle.transcript.specs.declared.running.Parts.{Parts}
 -- ---- What a run keeps
 
 -- all links up, nothing learned, no copy in flight
-abbrev pub fresh_parts : Parts
-fresh_parts = record { up = all_up; seats = replicate most_switches no_seat; words = replicate most no_words; flying = 0 }
+pub record FreshParts (p : Parts) : Type 0 where
+  pub up : p.up ≡ all_up
+  pub seats : p.seats ≡ replicate most_switches no_seat
+  pub words : p.flight.words ≡ replicate most no_words
+  pub flying : p.flight.flying ≡ 0
 
 -- the copies in flight
 abbrev pub copies_of : Parts → List Copy
-copies_of p = copies_in p.flying p.words
+copies_of p = copies_in p.flight.flying p.flight.words
 
 -- ---- An event
 
 -- its own refusal
 abbrev pub refusal_at : Network → Parts → Event → ℕ
-refusal_at n p e = own_refusal n p.flying e
+refusal_at n p e = own_refusal n p.flight.flying e
 
 -- the number of the head whose turn it is
 abbrev pub head_at : Network → Parts → Event → ℕ
@@ -47,9 +50,7 @@ unfoldable pub turn_at : Network → Parts → Event → Turn
 turn_at n p e = turn_of n p.up (seated_at n p.up (head_at n p e) (get_or p.seats (head_at n p e) no_seat)) (copies_of p) e
 
 -- what an event needs
-pub record CanAct (n : Network) (plugs : List ℕ) (p : Parts) (e : Event) : Type 0 where
-  pub kept : Kept p.words p.flying
-  pub plugged : plugs ≡ plugs_of n
+pub record CanAct (n : Network) (p : Parts) (e : Event) : Type 0 where
   pub can : refusal_at n p e ≡ 0 → CanTurn n (copies_of p) e
   pub few : refusal_at n p e ≡ 0 → head_at n p e < most_switches
 
@@ -57,7 +58,7 @@ pub record CanAct (n : Network) (plugs : List ℕ) (p : Parts) (e : Event) : Typ
 pub record Taken (n : Network) (p : Parts) (e : Event) (d : Done) (q : Parts) : Type 0 where
   pub free : refusal_at n p e ≡ 0
   pub seat : Seat
-  pub turns : Turns (turn_at n p e) q.up seat q.words q.flying d
+  pub turns : Turns (turn_at n p e) q.up seat q.flight.words q.flight.flying d
   pub seats : q.seats ≡ set p.seats (head_at n p e) seat
 
 -- a refused one leaves everything as it was

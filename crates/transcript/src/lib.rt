@@ -11,6 +11,8 @@ ghost use Rattle.transcript.specs.Transcript.{Prints};
 
 mod running;
 
+use cabling::Stand;
+
 // The longest transcript: 12,000 lines of 26 bytes, and "stop 20".
 pub const LONGEST: usize = 312_008;
 
@@ -25,6 +27,6 @@ pub fn transcript(input: &[u8], out: &mut [u8]) -> Option<usize>
     }
     match network::read(input) {
         Err(refusal) => Some(lines::put_refused(out, 0, refusal.number())),
-        Ok(d) => Some(running::run(&d.network, input, d.end, out)),
+        Ok(d) => Some(running::run(&Stand::new(d.network), input, d.end, out)),
     }
 }

@@ -2,11 +2,11 @@
 ghost use Rattle.std.specs.Prelude.{◌≡◌, ◌≤◌};
 ghost use Rattle.flight.specs.Flight.{most};
 ghost use Rattle.transcript.specs.Transcript.{line_for};
-ghost use Rattle.transcript.specs.Running.{Acts, CanAct, CanRun, Ran, fresh_parts};
+ghost use Rattle.transcript.specs.Running.{Acts, CanAct, CanRun, FreshParts, Ran};
 
-use cabling::{plugs_of, setup_of};
+use cabling::{Stand, setup_of};
 use event::{Event, letter_of, read_event, size_of};
-use flight::Copy;
+use flight::{Copy, Flight};
 use lines::{Line, put_line, put_stop};
 use network::Network;
 use refusal::Refusal;
@@ -19,15 +19,13 @@ use turn::{Done, check_event, head_of, received_by, refusal_of, turn, verdict_of
 struct Parts {
     up: [bool; Network::LINKS],
     seats: [Seat; Network::SWITCHES],
-    // The packed copies, and how many of them are in flight.
-    words: [[u64; 3]; Copy::MOST],
-    flying: usize,
+    flight: Flight,
 }
 
 impl Parts {
     // All links up, nothing learned, no copy in flight.
     fn fresh() -> Self
-        ensures { result ≡ fresh_parts }
+        ensures { FreshParts result }
     {
         let none = Seat::fresh(Setup {
             ports: 0,
@@ -39,33 +37,26 @@ impl Parts {
         Parts {
             up: [true; Network::LINKS],
             seats: [none; Network::SWITCHES],
-            words: [[0; 3]; Copy::MOST],
-            flying: 0,
+            flight: Flight {
+                words: [[0; 3]; Copy::MOST],
+                flying: 0,
+            },
         }
     }
 
     // An event on a bench in shape: its own causes, then the turn of its head, under the masks that
     // the links give.
-    fn act(&mut self, network: &Network, plugs: &[u8], e: Event) -> Result<Done, Refusal>
-        requires { CanAct network.now plugs.now self.old e }
-        ensures { Acts network.now self.old e result self.new }
+    fn act(&mut self, stand: &Stand, e: Event) -> Result<Done, Refusal>
+        requires { CanAct stand.now.network self.old e }
+        ensures { Acts stand.now.network self.old e result self.new }
     {
-        check_event(network, self.flying, e)?;
-        let k = head_of(network, &self.words, e);
-        let setup = setup_of(network, plugs, &self.up, k);
+        check_event(&stand.network, self.flight.flying, e)?;
+        let k = head_of(&stand.network, &self.flight.words, e);
+        let setup = setup_of(&stand.network, &stand.plugs, &self.up, k);
         let seat = &mut self.seats[k as usize];
         seat.set_up(setup);
-        let t = turn(
-            network,
-            plugs,
-            &mut self.up,
-            seat,
-            &mut self.words,
-            self.flying,
-            e,
-        );
-        self.flying = t.flying;
-        Ok(t.done)
+        let done = turn(stand, &mut self.up, seat, &mut self.flight, e);
+        Ok(done)
     }
 }
 
@@ -86,11 +77,10 @@ fn line_for(number: u32, e: Event, a: Result<Done, Refusal>, flying: usize) -> L
 }
 
 // The lines of the events from a place of the input on; where they end in the output.
-pub fn run(network: &Network, input: &[u8], start: usize, out: &mut [u8]) -> usize
-    requires { CanRun network.now input.now out.old }
-    ensures { Ran network.now input.now start out.old result out.new }
+pub fn run(stand: &Stand, input: &[u8], start: usize, out: &mut [u8]) -> usize
+    requires { CanRun stand.now.network input.now out.old }
+    ensures { Ran stand.now.network input.now start out.old result out.new }
 {
-    let plugs = plugs_of(network);
     let mut parts = Parts::fresh();
     let mut number: u32 = 1;
     let mut at = start;
@@ -100,8 +90,8 @@ pub fn run(network: &Network, input: &[u8], start: usize, out: &mut [u8]) -> usi
         let Ok(e) = read_event(input, at) else {
             return put_stop(out, wrote);
         };
-        let answer = parts.act(network, &plugs, e);
-        wrote = put_line(out, wrote, line_for(number, e, answer, parts.flying));
+        let answer = parts.act(stand, e);
+        wrote = put_line(out, wrote, line_for(number, e, answer, parts.flight.flying));
         at += size_of(e);
         number += 1;
     }

@@ -16,9 +16,9 @@ use Rattle.cabling.specs.declared.Plug.{Plug}
 use Rattle.cabling.specs.declared.Plug.TheVariants.{Open, Host, Link}
 use Rattle.cabling.specs.Cabling.{most_ports, plug_at, plug_in}
 use Rattle.flight.specs.declared.Copy.{Copy}
-use Rattle.flight.specs.Flight.{copies_in, most}
+use Rattle.flight.specs.Flight.{most}
 use Rattle.turn.specs.declared.sending.Sent.{Sent}
-use Rattle.turn.specs.Send.{Numbered, Outbox, Room, joins, outbox, send_at, send_from}
+use Rattle.turn.specs.Send.{Numbered, Outbox, joins, outbox, send_at, send_from}
 
 -- ---- A copy joins
 
@@ -69,33 +69,33 @@ numbered ps k p = by_test (ltb p most_ports)
 -- ---- Port by port
 
 -- the ports below one have sent: what the others send makes up the whole
-pub record Reached (plug : ℕ → Plug) (a : Arrival) (mask : ℕ) (h : Header) (whole : Outbox) (words : List (List ℕ)) (s : Sent) (port : ℕ) : Type 0 where
+pub record Reached (plug : ℕ → Plug) (a : Arrival) (mask : ℕ) (h : Header) (whole : Outbox) (flying : List Copy) (s : Sent) (port : ℕ) : Type 0 where
   pub left : ℕ
   pub count : port + left ≡ most_ports
-  pub room : Room words s port
-  pub so_far : send_from plug a mask h left port (outbox (copies_in s.flying words) s) ≡ whole
+  pub room : s.placed + s.lost ≤ port
+  pub so_far : send_from plug a mask h left port (outbox flying s) ≡ whole
 
-module _ {plug : ℕ → Plug} {a : Arrival} {mask : ℕ} {h : Header} {whole : Outbox} {words : List (List ℕ)} {s : Sent} {port : ℕ} where
-  pub reached_next : {after : List (List ℕ)} {r : Sent} → Reached plug a mask h whole words s port → port < most_ports
-      → outbox (copies_in r.flying after) r ≡ send_at plug a mask h port (outbox (copies_in s.flying words) s)
-      → Room after r (s.placed + s.lost + 1) → Reached plug a mask h whole after r (port + 1)
+module _ {plug : ℕ → Plug} {a : Arrival} {mask : ℕ} {h : Header} {whole : Outbox} {flying : List Copy} {s : Sent} {port : ℕ} where
+  pub reached_next : {after : List Copy} {r : Sent} → Reached plug a mask h whole flying s port → port < most_ports
+      → outbox after r ≡ send_at plug a mask h port (outbox flying s)
+      → r.placed + r.lost ≤ s.placed + s.lost + 1 → Reached plug a mask h whole after r (port + 1)
   unfolding send_from
   reached_next {after} {r} v less e room = by_left v.left v.count v.so_far
     where
-      by_left : (left : ℕ) → port + left ≡ most_ports → send_from plug a mask h left port (outbox (copies_in s.flying words) s) ≡ whole → Reached plug a mask h whole after r (port + 1)
+      by_left : (left : ℕ) → port + left ≡ most_ports → send_from plug a mask h left port (outbox flying s) ≡ whole → Reached plug a mask h whole after r (port + 1)
       by_left zero count so_far = absurd (omega arith)
       by_left (suc left) count so_far =
           record {
             left = left;
             count = omega arith;
-            room = record { whole = room.whole; few = room.few; sent = omega (arith, room.sent, v.room.sent) };
+            room = omega (arith, room, v.room);
             so_far = ap (send_from plug a mask h left (port + 1)) e ∙ so_far;
           }
 
-  pub reached_end : Reached plug a mask h whole words s port → most_ports ≤ port → outbox (copies_in s.flying words) s ≡ whole
+  pub reached_end : Reached plug a mask h whole flying s port → most_ports ≤ port → outbox flying s ≡ whole
   unfolding send_from
   reached_end v least = by_left v.left v.count v.so_far
     where
-      by_left : (left : ℕ) → port + left ≡ most_ports → send_from plug a mask h left port (outbox (copies_in s.flying words) s) ≡ whole → outbox (copies_in s.flying words) s ≡ whole
+      by_left : (left : ℕ) → port + left ≡ most_ports → send_from plug a mask h left port (outbox flying s) ≡ whole → outbox flying s ≡ whole
       by_left zero count so_far = so_far
       by_left (suc left) count so_far = absurd (omega arith)

@@ -22,6 +22,7 @@ use Rattle.cabling.specs.Cabling.{plug_at, plugs_of}
 use Rattle.seat.specs.declared.Seat.{Seat}
 use Rattle.seat.specs.Seat.{Seated, arrival_of, from_host, from_link, host_header, step_of}
 use Rattle.flight.specs.declared.Copy.{Copy}
+use Rattle.flight.specs.declared.Flight.{Flight}
 use Rattle.flight.specs.Flight as flight
 use Rattle.flight.specs.Flight.{Cut, copies_in, most, no_copy, spared, spared_words, unpack, without}
 use Rattle.flight.proofs.Laws.{copies_length, copy_at_is, spared_words_lem}
@@ -34,10 +35,14 @@ use Rattle.turn.proofs.Writing.{laid_same}
 use Rattle.turn.specs.declared.Done.{Done}
 use Rattle.turn.specs.declared.Done.TheVariants.{Stepped, Linked}
 use Rattle.turn.specs.declared.sending.Sent.{Sent}
-use Rattle.turn.specs.Send.{Outbox, Room, nothing_sent, outbox, send_out}
+use Rattle.turn.specs.Send.{Outbox, nothing_sent, outbox, send_out}
 use Rattle.turn.specs.Turn.{CanTake, Kept, Spares, Turn, Turns, copy_arrival, copy_at, host_arrival, host_of, is_up, outbox_of, own_causes, own_refusal, plug_of, port_to, presents, sets, step_report, steps, takes, turn_of}
 
 -- ---- The list
+
+-- the parts that are lent
+pub kept : (f : Flight) → Kept f.words f.flying
+kept f = record { whole = f.whole; few = f.few }
 
 kept_long : {words : List (List ℕ)} {flying : ℕ} → Kept words flying → length (copies_in flying words) ≡ flying
 kept_long {words} {flying} kept = copies_length flying words (omega (arith, kept.whole, kept.few))
@@ -49,21 +54,21 @@ turns_as {up = up} {s = s} {words = words} {n = n} {a = a} e v = subst (λ t. Tu
 -- ---- A step
 
 -- the seat behind the step, and what it sent
-pub head_steps : (n : Network) (up : List Bool) (k : ℕ) (s : Seat) (a : Arrival) {w : Seated} {sent : Sent} {plugs : List ℕ} {after : List (List ℕ)} {many : ℕ} (flying : List Copy)
-    → w ≡ step_of s a → outbox (copies_in sent.flying after) sent ≡ send_out (plug_at plugs k) a (sending_of w.report.verdict) (nothing_sent flying)
-    → Room after sent many → plugs ≡ plugs_of n
-    → Turns (steps n up k s a flying) up w.seat after sent.flying (Stepped (step_report k a w (outbox (copies_in sent.flying after) sent)))
+pub head_steps : (n : Network) (up : List Bool) (k : ℕ) (s : Seat) (a : Arrival) {w : Seated} {sent : Sent} {plugs : List ℕ} {after : List (List ℕ)} {m : ℕ} (flying : List Copy)
+    → w ≡ step_of s a → outbox (copies_in m after) sent ≡ send_out (plug_at plugs k) a (sending_of w.report.verdict) (nothing_sent flying)
+    → Kept after m → plugs ≡ plugs_of n
+    → Turns (steps n up k s a flying) up w.seat after m (Stepped (step_report k a w (outbox (copies_in m after) sent)))
 unfolding steps outbox_of plug_of
-head_steps n up k s a {w} {sent} {plugs} {after} flying stepped went room same =
-    let out : outbox (copies_in sent.flying after) sent ≡ outbox_of n k (step_of s a) a flying
+head_steps n up k s a {w} {sent} {plugs} {after} {m} flying stepped went kept same =
+    let out : outbox (copies_in m after) sent ≡ outbox_of n k (step_of s a) a flying
     = went ∙ ap₂ (λ ps (u : Seated). send_out (plug_at ps k) a (sending_of u.report.verdict) (nothing_sent flying)) same stepped in
     record {
       up = refl;
       seat = ap (λ (u : Seated). u.seat) stepped;
       copies = ap (λ (x : Outbox). x.flying) out;
       done = ap₂ (λ (u : Seated) (x : Outbox). Stepped (step_report k a u x)) stepped out;
-      whole = room.whole;
-      few = room.few;
+      whole = kept.whole;
+      few = kept.few;
     }
 
 -- ---- A host presents

@@ -30,8 +30,8 @@ abbrev pub nothing_sent : List Copy → Outbox
 nothing_sent flying = record { flying = flying; received = 0; placed = 0; lost = 0 }
 
 -- the numbers then
-abbrev pub nothing : ℕ → Sent
-nothing n = record { flying = n; received = 0; placed = 0; lost = 0 }
+abbrev pub nothing : Sent
+nothing = record { received = 0; placed = 0; lost = 0 }
 
 -- the copy of an arrival's frame that a link carries to an end, under the outgoing header
 abbrev pub copy_to : End → Arrival → Header → Copy
@@ -105,12 +105,6 @@ pub record Reaches (plug : ℕ → Plug) (mask i : ℕ) : Type 0 where
 
 -- ---- Words of the code that sends
 
--- the array is whole, the list is within it, and at most so many copies were placed or lost so far
-pub record Room (words : List (List ℕ)) (s : Sent) (many : ℕ) : Type 0 where
-  pub whole : length words ≡ most
-  pub few : s.flying ≤ most
-  pub sent : s.placed + s.lost ≤ many
-
 -- only the places from n on to m were written, each with the words of the copy that it then carries
 pub record Written (n : ℕ) (before : List (List ℕ)) (m : ℕ) (after : List (List ℕ)) : Type 0 where
   pub more : n ≤ m
@@ -126,6 +120,5 @@ Numbered (Link e) = Unit {0}
 
 -- host i's bit was set, and nothing else
 pub record Received (i : ℕ) (s r : Sent) : Type 0 where
-  pub flying : r.flying ≡ s.flying
   pub box : (xs : List Copy) → outbox xs r ≡ receives i (outbox xs s)
   pub sent : r.placed + r.lost ≡ s.placed + s.lost

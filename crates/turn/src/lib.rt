@@ -1,24 +1,22 @@
 // A head's turn at an event, on the parts of a bench, all lent: the head, the links' states and the
-// packed copies, so that a run copies none of them. The plugs are those of the network, worked out
-// once for a whole run.
+// packed copies, so that a run copies none of them. The stand's plugs are worked out once for a
+// whole run.
 #![tactic(auto)]
 
 pub mod sending;
 
 ghost use Rattle.std.specs.Prelude.{Bool, List, ◌≡◌, ℕ, ◌<◌, length, take};
 ghost use Rattle.refusal.specs.Number.{refused_as};
-ghost use Rattle.network.specs.declared.Network.{Network};
 ghost use Rattle.network.specs.Network.{most_links};
-ghost use Rattle.cabling.specs.Cabling.{plugs_of};
 ghost use Rattle.flight.specs.Flight.{copies_in, without};
 ghost use Rattle.seat.specs.declared.Seat.{Seat};
 ghost use Rattle.turn.specs.Send.{Written};
 ghost use Rattle.turn.specs.Turn as spec;
 ghost use Rattle.turn.specs.Turn.{CanTake, CanTurn, Kept, Laid, Spares, Turns, head_of, host_of, port_to, presents, received_by, refusal_of, sets, staying, steps, takes, turn_of, verdict_of};
 
-use cabling::{End, port_of};
+use cabling::{End, Stand, port_of};
 use event::{Event, Setting};
-use flight::{Copy, copy_at, cut, take_out};
+use flight::{Copy, Flight, copy_at, cut, take_out};
 use network::{Host, Network, Port};
 use refusal::Refusal;
 use rules::{Arrival, Verdict, letter_of};
@@ -46,13 +44,6 @@ pub struct Report {
 pub enum Done {
     Stepped(Report),
     Linked(u16),
-}
-
-// What a turn did, and how many copies are then in flight.
-#[derive(Clone, Copy, PartialEq, Eq)]
-pub struct Turned {
-    pub done: Done,
-    pub flying: usize,
 }
 
 // The refusal number, or 0.
@@ -110,100 +101,72 @@ fn port_to(n: &Network, c: Copy) -> Port
 }
 
 // A head steps on an arrival, and what it sends goes out.
-fn step_head(
-    plugs: &[u8],
-    seat: &mut Seat,
-    words: &mut [[u64; 3]],
-    flying: usize,
-    switch: u8,
-    a: Arrival,
-) -> Turned
-    requires { Kept words.old flying × (a.port < 16) }
-    ensures turns { (n : Network) (up : List Bool) → plugs.now ≡ plugs_of n → Turns (steps n up switch seat.old a (copies_in flying words.old)) up seat.new words.new result.flying result.done }
-    ensures words { Written flying words.old result.flying words.new }
+fn step_head(stand: &Stand, seat: &mut Seat, flight: &mut Flight, switch: u8, a: Arrival) -> Done
+    requires { a.port < 16 }
+    ensures turns { (up : List Bool) → Turns (steps stand.now.network up switch seat.old a (copies_in flight.old.flying flight.old.words)) up seat.new flight.new.words flight.new.flying result }
+    ensures words { Written flight.old.flying flight.old.words flight.new.flying flight.new.words }
 {
     let r = seat.step(a);
     let v = r.verdict;
-    let s = send_out(plugs, switch, a, v, words, flying);
-    Turned {
-        done: Done::Stepped(Report {
-            switch,
-            port: a.port,
-            source: a.source,
-            destination: a.destination,
-            verdict: v,
-            placed: s.placed,
-            lost: s.lost,
-            received: s.received,
-            overwrote: r.overwrote,
-        }),
-        flying: s.flying,
-    }
+    let s = send_out(&stand.plugs, switch, a, v, flight);
+    Done::Stepped(Report {
+        switch,
+        port: a.port,
+        source: a.source,
+        destination: a.destination,
+        verdict: v,
+        placed: s.placed,
+        lost: s.lost,
+        received: s.received,
+        overwrote: r.overwrote,
+    })
 }
 
 // Kind 4: a host presents a frame and its switch steps at once.
-fn present(
-    plugs: &[u8],
-    seat: &mut Seat,
-    words: &mut [[u64; 3]],
-    flying: usize,
-    h: Host,
-    to: u64,
-) -> Turned
-    requires { Kept words.old flying × (h.port.number < 16) }
-    ensures turns { (n : Network) (up : List Bool) → plugs.now ≡ plugs_of n → Turns (presents n up seat.old (copies_in flying words.old) h to) up seat.new words.new result.flying result.done }
-    ensures words { Laid (take flying words.old) words.old result.flying words.new }
+fn present(stand: &Stand, seat: &mut Seat, flight: &mut Flight, h: Host, to: u64) -> Done
+    requires { h.port.number < 16 }
+    ensures turns { (up : List Bool) → Turns (presents stand.now.network up seat.old (copies_in flight.old.flying flight.old.words) h to) up seat.new flight.new.words flight.new.flying result }
+    ensures words { Laid (take flight.old.flying flight.old.words) flight.old.words flight.new.flying flight.new.words }
 {
     let port = h.port;
     let a = seat.from_host(port.number, h.address, to);
-    step_head(plugs, seat, words, flying, port.switch, a)
+    step_head(stand, seat, flight, port.switch, a)
 }
 
 // Kind 5: the copy at a place is taken out, those behind move up one, its switch steps.
-fn take(
-    network: &Network,
-    plugs: &[u8],
-    seat: &mut Seat,
-    words: &mut [[u64; 3]],
-    flying: usize,
-    place: usize,
-) -> Turned
-    requires { Kept words.old flying × CanTake network.now (copies_in flying words.old) place }
-    ensures turns { (up : List Bool) → plugs.now ≡ plugs_of network.now → Turns (takes network.now up seat.old (copies_in flying words.old) place) up seat.new words.new result.flying result.done }
-    ensures words { Laid (without place (take flying words.old)) words.old result.flying words.new }
+fn take(stand: &Stand, seat: &mut Seat, flight: &mut Flight, place: usize) -> Done
+    requires { CanTake stand.now.network (copies_in flight.old.flying flight.old.words) place }
+    ensures turns { (up : List Bool) → Turns (takes stand.now.network up seat.old (copies_in flight.old.flying flight.old.words) place) up seat.new flight.new.words flight.new.flying result }
+    ensures words { Laid (without place (take flight.old.flying flight.old.words)) flight.old.words flight.new.flying flight.new.words }
 {
-    let c = copy_at(words, place);
-    let port = port_to(network, c);
+    let c = copy_at(&flight.words, place);
+    let port = port_to(&stand.network, c);
     let a = from_link(port.number, c.source, c.destination, c.header);
-    take_out(words, flying, place);
-    step_head(plugs, seat, words, flying - 1, port.switch, a)
+    take_out(&mut flight.words, flight.flying, place);
+    flight.flying -= 1;
+    step_head(stand, seat, flight, port.switch, a)
 }
 
 // What a link's state spares: all but the copies on it, where it is down.
-fn spare(words: &mut [[u64; 3]], flying: usize, link: u8, state: bool) -> usize
-    requires { Kept words.old flying }
-    ensures { Spares state link words.old flying words.new result }
+fn spare(flight: &mut Flight, link: u8, state: bool)
+    ensures { Spares state link flight.old.words flight.old.flying flight.new.words flight.new.flying }
 {
-    if state {
-        flying
-    } else {
-        cut(words, flying, link)
+    if !state {
+        flight.flying = cut(&mut flight.words, flight.flying, link);
     }
 }
 
 // Kind 6: a link is set; set down it loses the copies on it. No head steps.
-fn set_link(up: &mut [bool], words: &mut [[u64; 3]], flying: usize, s: Setting) -> Turned
-    requires { Kept words.old flying × (s.link < most_links) × (length up.old ≡ most_links) }
-    ensures turns { (seat : Seat) → Turns (sets up.old seat (copies_in flying words.old) s.link (spec.is_up s.state)) up.new seat words.new result.flying result.done }
-    ensures words { Laid (spec.spared_words_by (spec.is_up s.state) s.link (take flying words.old)) words.old result.flying words.new }
+fn set_link(up: &mut [bool], flight: &mut Flight, s: Setting) -> Done
+    requires { (s.link < most_links) × (length up.old ≡ most_links) }
+    ensures turns { (seat : Seat) → Turns (sets up.old seat (copies_in flight.old.flying flight.old.words) s.link (spec.is_up s.state)) up.new seat flight.new.words flight.new.flying result }
+    ensures words { Laid (spec.spared_words_by (spec.is_up s.state) s.link (take flight.old.flying flight.old.words)) flight.old.words flight.new.flying flight.new.words }
 {
     let state = s.state == 1;
     up[s.link as usize] = state;
-    let left = spare(words, flying, s.link, state);
-    Turned {
-        done: Done::Linked((flying - left) as u16),
-        flying: left,
-    }
+    let before = flight.flying;
+    spare(flight, s.link, state);
+    Done::Linked((before - flight.flying) as u16)
 }
 
 // The head whose turn it is.
@@ -227,26 +190,18 @@ pub fn head_of(network: &Network, words: &[[u64; 3]], e: Event) -> u8
 
 // A head takes its turn.
 #[tactic(auto, unfolding(crate::specs::Turn::turn_of, crate::specs::Turn::staying))]
-pub fn turn(
-    network: &Network,
-    plugs: &[u8],
-    up: &mut [bool],
-    seat: &mut Seat,
-    words: &mut [[u64; 3]],
-    flying: usize,
-    e: Event,
-) -> Turned
-    requires { Kept words.old flying × (length up.old ≡ most_links) × (plugs.now ≡ plugs_of network.now) × CanTurn network.now (copies_in flying words.old) e }
-    ensures turns { Turns (turn_of network.now up.old seat.old (copies_in flying words.old) e) up.new seat.new words.new result.flying result.done }
-    ensures words { Laid (staying e (take flying words.old)) words.old result.flying words.new }
+pub fn turn(stand: &Stand, up: &mut [bool], seat: &mut Seat, flight: &mut Flight, e: Event) -> Done
+    requires { (length up.old ≡ most_links) × CanTurn stand.now.network (copies_in flight.old.flying flight.old.words) e }
+    ensures turns { Turns (turn_of stand.now.network up.old seat.old (copies_in flight.old.flying flight.old.words) e) up.new seat.new flight.new.words flight.new.flying result }
+    ensures words { Laid (staying e (take flight.old.flying flight.old.words)) flight.old.words flight.new.flying flight.new.words }
 {
     match e {
         Event::Present(p) => {
-            let h = host_of(network, p.host);
-            present(plugs, seat, words, flying, h, p.to.number())
+            let h = host_of(&stand.network, p.host);
+            present(stand, seat, flight, h, p.to.number())
         }
-        Event::Take(place) => take(network, plugs, seat, words, flying, place as usize),
-        Event::Link(s) => set_link(up, words, flying, s),
+        Event::Take(place) => take(stand, seat, flight, place as usize),
+        Event::Link(s) => set_link(up, flight, s),
     }
 }
 

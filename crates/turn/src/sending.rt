@@ -1,21 +1,20 @@
 // What becomes of a step's copies: a host receives, or a link carries one to its other end.
-ghost use Rattle.std.specs.Prelude.{◌≡◌, ◌+◌, ◌≤◌, ◌<◌, length};
+ghost use Rattle.std.specs.Prelude.{◌≡◌, ◌+◌, ◌≤◌, ◌<◌};
 ghost use Rattle.rules.specs.Verdict.{sending_of};
 ghost use Rattle.cabling.specs.Cabling.{most_ports, plug_at};
-ghost use Rattle.flight.specs.Flight.{copies_in, most};
-ghost use Rattle.turn.specs.Send.{Numbered, Received, Room, Written, copy_to, joins, nothing, nothing_sent, outbox, send_at, send_from, send_on, send_out};
+ghost use Rattle.flight.specs.Flight.{copies_in};
+ghost use Rattle.turn.specs.Send.{Numbered, Received, Written, copy_to, joins, nothing, nothing_sent, outbox, send_at, send_from, send_on, send_out};
 
 use cabling::{End, Plug, other, plug_at};
-use flight::Copy;
+use flight::{Copy, Flight};
 use frame::Header;
 use network::Switch;
 use rules::masks::has_port;
 use rules::{Arrival, Send, Verdict, sending_of};
 
-// How many copies are in flight, the hosts that received, and how many copies were placed and lost.
+// The hosts that received, and how many copies were placed and lost.
 #[derive(Clone, Copy, PartialEq, Eq)]
 pub struct Sent {
-    pub flying: usize,
     pub received: u32,
     pub placed: u8,
     pub lost: u8,
@@ -23,11 +22,10 @@ pub struct Sent {
 
 impl Sent {
     // Before anything is sent.
-    fn nothing(flying: usize) -> Self
-        ensures { result ≡ nothing flying }
+    fn nothing() -> Self
+        ensures { result ≡ nothing }
     {
         Sent {
-            flying,
             received: 0,
             placed: 0,
             lost: 0,
@@ -49,17 +47,16 @@ fn copy_to(e: End, a: Arrival, h: Header) -> Copy
 
 // A new copy joins the end while there is room; the others are lost.
 #[tactic(auto, using(crate::proofs::Outboxes::joins_room, crate::proofs::Outboxes::joins_full, flight::proofs::Laws::copies_length, crate::proofs::Writing::written_joined))]
-fn join(c: Copy, words: &mut [[u64; 3]], s: Sent) -> Sent
-    requires { Room words.old s 254 }
-    ensures sent { outbox (copies_in result.flying words.new) result ≡ joins c (outbox (copies_in s.flying words.old) s) }
-    ensures room { Room words.new result (s.placed + s.lost + 1) }
-    ensures words { Written s.flying words.old result.flying words.new }
+fn join(c: Copy, flight: &mut Flight, s: Sent) -> Sent
+    requires { s.placed + s.lost ≤ 254 }
+    ensures sent { outbox (copies_in flight.new.flying flight.new.words) result ≡ joins c (outbox (copies_in flight.old.flying flight.old.words) s) }
+    ensures room { result.placed + result.lost ≤ s.placed + s.lost + 1 }
+    ensures words { Written flight.old.flying flight.old.words flight.new.flying flight.new.words }
 {
-    if s.flying < Copy::MOST {
-        let at = s.flying;
-        flight::join(words, at, c);
+    if flight.flying < Copy::MOST {
+        flight::join(&mut flight.words, flight.flying, c);
+        flight.flying += 1;
         Sent {
-            flying: at + 1,
             placed: s.placed + 1,
             ..s
         }
@@ -85,16 +82,16 @@ fn receive(i: u8, s: Sent) -> Sent
 
 // One port sends.
 #[tactic(auto, unfolding(crate::specs::Send::send_on))]
-fn send_on(plug: Plug, a: Arrival, h: Header, words: &mut [[u64; 3]], s: Sent) -> Sent
-    requires { Room words.old s 254 × Numbered plug }
-    ensures sent { outbox (copies_in result.flying words.new) result ≡ send_on plug a h (outbox (copies_in s.flying words.old) s) }
-    ensures room { Room words.new result (s.placed + s.lost + 1) }
-    ensures words { Written s.flying words.old result.flying words.new }
+fn send_on(plug: Plug, a: Arrival, h: Header, flight: &mut Flight, s: Sent) -> Sent
+    requires { (s.placed + s.lost ≤ 254) × Numbered plug }
+    ensures sent { outbox (copies_in flight.new.flying flight.new.words) result ≡ send_on plug a h (outbox (copies_in flight.old.flying flight.old.words) s) }
+    ensures room { result.placed + result.lost ≤ s.placed + s.lost + 1 }
+    ensures words { Written flight.old.flying flight.old.words flight.new.flying flight.new.words }
 {
     match plug {
         Plug::Open => s,
         Plug::Host(i) => receive(i, s),
-        Plug::Link(e) => join(copy_to(other(e), a, h), words, s),
+        Plug::Link(e) => join(copy_to(other(e), a, h), flight, s),
     }
 }
 
@@ -106,59 +103,43 @@ fn send_at(
     port: u8,
     a: Arrival,
     c: Send,
-    words: &mut [[u64; 3]],
+    flight: &mut Flight,
     s: Sent,
 ) -> Sent
-    requires { Room words.old s 254 }
-    ensures sent { outbox (copies_in result.flying words.new) result ≡ send_at (plug_at plugs.now switch) a c.mask c.header port (outbox (copies_in s.flying words.old) s) }
-    ensures room { Room words.new result (s.placed + s.lost + 1) }
-    ensures words { Written s.flying words.old result.flying words.new }
+    requires { s.placed + s.lost ≤ 254 }
+    ensures sent { outbox (copies_in flight.new.flying flight.new.words) result ≡ send_at (plug_at plugs.now switch) a c.mask c.header port (outbox (copies_in flight.old.flying flight.old.words) s) }
+    ensures room { result.placed + result.lost ≤ s.placed + s.lost + 1 }
+    ensures words { Written flight.old.flying flight.old.words flight.new.flying flight.new.words }
 {
     if has_port(c.mask, port) {
-        send_on(plug_at(plugs, switch, port), a, c.header, words, s)
+        send_on(plug_at(plugs, switch, port), a, c.header, flight, s)
     } else {
         s
     }
 }
 
 // All ports send, in ascending order.
-fn send_all(
-    plugs: &[u8],
-    switch: u8,
-    a: Arrival,
-    c: Send,
-    words: &mut [[u64; 3]],
-    flying: usize,
-) -> Sent
-    requires { (length words.old ≡ most) × (flying ≤ most) }
-    ensures sent { outbox (copies_in result.flying words.new) result ≡ send_from (plug_at plugs.now switch) a c.mask c.header most_ports 0 (nothing_sent (copies_in flying words.old)) }
-    ensures room { Room words.new result most_ports }
-    ensures words { Written flying words.old result.flying words.new }
+fn send_all(plugs: &[u8], switch: u8, a: Arrival, c: Send, flight: &mut Flight) -> Sent
+    ensures sent { outbox (copies_in flight.new.flying flight.new.words) result ≡ send_from (plug_at plugs.now switch) a c.mask c.header most_ports 0 (nothing_sent (copies_in flight.old.flying flight.old.words)) }
+    ensures room { result.placed + result.lost ≤ most_ports }
+    ensures words { Written flight.old.flying flight.old.words flight.new.flying flight.new.words }
 {
-    let mut s = Sent::nothing(flying);
+    let mut s = Sent::nothing();
     for port in 0..Switch::PORTS {
-        s = send_at(plugs, switch, port, a, c, words, s);
+        s = send_at(plugs, switch, port, a, c, flight, s);
     }
     s
 }
 
 // What a verdict sends goes out.
 #[tactic(auto, unfolding(crate::specs::Send::send_out))]
-pub fn send_out(
-    plugs: &[u8],
-    switch: u8,
-    a: Arrival,
-    v: Verdict,
-    words: &mut [[u64; 3]],
-    flying: usize,
-) -> Sent
-    requires { (length words.old ≡ most) × (flying ≤ most) }
-    ensures sent { outbox (copies_in result.flying words.new) result ≡ send_out (plug_at plugs.now switch) a (sending_of v) (nothing_sent (copies_in flying words.old)) }
-    ensures room { Room words.new result most_ports }
-    ensures words { Written flying words.old result.flying words.new }
+pub fn send_out(plugs: &[u8], switch: u8, a: Arrival, v: Verdict, flight: &mut Flight) -> Sent
+    ensures sent { outbox (copies_in flight.new.flying flight.new.words) result ≡ send_out (plug_at plugs.now switch) a (sending_of v) (nothing_sent (copies_in flight.old.flying flight.old.words)) }
+    ensures room { result.placed + result.lost ≤ most_ports }
+    ensures words { Written flight.old.flying flight.old.words flight.new.flying flight.new.words }
 {
     match sending_of(v) {
-        None => Sent::nothing(flying),
-        Some(c) => send_all(plugs, switch, a, c, words, flying),
+        None => Sent::nothing(),
+        Some(c) => send_all(plugs, switch, a, c, flight),
     }
 }

@@ -3,4 +3,4 @@ use Rattle.bench.proofs.Following.{Followed}
 use Rattle.bench.proofs.follow.Given as goal
 
 abbrev pub invariant-loop-k : goal.invariant-loop-k
-invariant-loop-k l = Followed l.n l.up l.initial.seats l.seats l.k
+invariant-loop-k l = Followed l.stand.network l.up l.initial.seats l.seats l.k

@@ -1,4 +1,5 @@
 -- The reader's answer says whether its refusal or the run's lines are written.
+use mathlib.Core.Path.{◌∙◌}
 use native.Mathlib.Omega.{arith}
 use Rattle.transcript.proofs.Whole.{reads_refused, refused_room, refused_prints, reads_to, reads_can, run_prints}
 use Rattle.transcript.proofs.transcript.Goals as goal
@@ -9,7 +10,7 @@ put_refused-requires c =
 
 pub run-requires : goal.run-requires
 run-requires c =
-    reads_can (reads_to c.args.input.now c.in-Ok.d.end c.in-Ok.ensures.answer) c.in-Ok.ensures.network (omega (arith, c.if-out-lt-LONGEST.false))
+    reads_can (reads_to c.args.input.now c.in-Ok.d.end c.in-Ok.ensures.answer) (c.new.ensures ∙ c.in-Ok.ensures.network) (omega (arith, c.if-out-lt-LONGEST.false))
 
 pub returns-in-Err-clause-prints : goal.returns-in-Err-clause-prints
 returns-in-Err-clause-prints c =
@@ -17,4 +18,4 @@ returns-in-Err-clause-prints c =
 
 pub returns-in-Ok-clause-prints : goal.returns-in-Ok-clause-prints
 returns-in-Ok-clause-prints c =
-    run_prints (reads_to c.args.input.now c.in-Ok.d.end c.in-Ok.ensures.answer) c.in-Ok.ensures.network (omega (arith, c.if-out-lt-LONGEST.false)) c.run.ensures
+    run_prints (reads_to c.args.input.now c.in-Ok.d.end c.in-Ok.ensures.answer) (c.new.ensures ∙ c.in-Ok.ensures.network) (omega (arith, c.if-out-lt-LONGEST.false)) c.run.ensures

@@ -1,11 +1,11 @@
 -- The step is that of the arrival which rule 1 makes of the frame.
 use Rattle.turn.proofs.Writing.{laid_all}
 use Rattle.turn.proofs.Turning.{presented_is, turns_as}
-use borrow.Author.Rules.{rules}
+use native.Mathlib.Omega.{arith}
 use Rattle.turn.proofs.present.Goals as goal
 
 pub returns-clause-turns : goal.returns-clause-turns
-returns-clause-turns c n up same = turns_as (presented_is c.args.seat.now c.args.h c.args.to c.from_host-a.ensures n up _) (c.step_head.ensures.turns n up same)
+returns-clause-turns c up = turns_as (presented_is c.args.seat.now c.args.h c.args.to c.from_host-a.ensures c.args.stand.now.network up _) (c.step_head.ensures.turns up)
 
 pub returns-clause-words : goal.returns-clause-words
-returns-clause-words c = laid_all (search rules) c.step_head.ensures.words
+returns-clause-words c = laid_all (omega (arith, c.args.flight.now.whole, c.args.flight.now.few)) c.step_head.ensures.words

@@ -6,12 +6,12 @@ use Rattle.turn.proofs.turn.Goals as goal
 pub returns-in-Present-clause-turns : goal.returns-in-Present-clause-turns
 returns-in-Present-clause-turns c =
     let a = c.args in
-    turns_as (present_turn a.network.now a.up.now a.seat.now (copies_in a.flying a.words.now) c.in-Present.is c.host_of-h.ensures c.number.ensures.value) (c.present.ensures.turns a.network.now a.up.now c.requires.2)
+    turns_as (present_turn a.stand.now.network a.up.now a.seat.now (copies_in a.flight.now.flying a.flight.now.words) c.in-Present.is c.host_of-h.ensures c.number.ensures.value) (c.present.ensures.turns a.up.now)
 
 pub returns-in-Take-clause-turns : goal.returns-in-Take-clause-turns
 returns-in-Take-clause-turns c =
-    let a = c.args in turns_as (take_turn a.network.now a.up.now a.seat.now (copies_in a.flying a.words.now) c.in-Take.is) (c.take.ensures.turns a.up.now c.requires.2)
+    let a = c.args in turns_as (take_turn a.stand.now.network a.up.now a.seat.now (copies_in a.flight.now.flying a.flight.now.words) c.in-Take.is) (c.take.ensures.turns a.up.now)
 
 pub returns-in-Link-clause-turns : goal.returns-in-Link-clause-turns
 returns-in-Link-clause-turns c =
-    let a = c.args in turns_as (link_turn a.network.now a.up.now a.seat.now (copies_in a.flying a.words.now) c.in-Link.is) (c.set_link.ensures.turns a.seat.now)
+    let a = c.args in turns_as (link_turn a.stand.now.network a.up.now a.seat.now (copies_in a.flight.now.flying a.flight.now.words) c.in-Link.is) (c.set_link.ensures.turns a.seat.now)

@@ -11,9 +11,9 @@ loop-k-init c = passing_starts
 pub loop-k-preserved : goal.loop-k-preserved
 loop-k-preserved c =
     let a = c.args in
-    seat_next a.network.now a.up.now a.seats.now c.loop-k.invariant (same_there a.seats.now c.loop-k.k _ no_seat (omega arith)) (sym c.seat_fits.ensures.test ∙ c.if-not-seat_fits.false) (c.seat_fits.ensures.fits c.if-not-seat_fits.false)
+    seat_next a.network.now a.up.now a.seats.now c.loop-k.invariant (same_there a.seats.now c.loop-k.k _ no_seat (omega arith)) (rw c.new-stand.ensures at (sym c.seat_fits.ensures.test ∙ c.if-not-seat_fits.false)) (rw c.new-stand.ensures at (c.seat_fits.ensures.fits c.if-not-seat_fits.false))
 
 pub returns-then-not-seat_fits-clause-test : goal.returns-then-not-seat_fits-clause-test
 returns-then-not-seat_fits-clause-test c =
     let a = c.args in
-    seat_fails a.network.now a.up.now a.seats.now c.loop-k-test.true (same_there a.seats.now c.loop-k.k _ no_seat (omega arith)) c.if-not-seat_fits.ensures.test
+    seat_fails a.network.now a.up.now a.seats.now c.loop-k-test.true (same_there a.seats.now c.loop-k.k _ no_seat (omega arith)) (rw c.new-stand.ensures at c.if-not-seat_fits.ensures.test)

@@ -4,11 +4,11 @@ use lib.ListN.{drop}
 use Rattle.event.proofs.Laws.{answer_is, size_range}
 use Rattle.lines.specs.Lines.{line_of, stop_line}
 use Rattle.lines.proofs.Laws.{stop_long}
-use Rattle.transcript.proofs.Loop.{going_starts, going_room, going_stops, going_ends, going_next, line_fits, kept_next, stands_can}
+use Rattle.transcript.proofs.Loop.{going_starts, going_room, going_stops, going_ends, going_next, line_fits, stands_can}
 use Rattle.transcript.proofs.running.run.Goals as goal
 
 pub loop-at-init : goal.loop-at-init
-loop-at-init c = rw c.fresh-parts.ensures (going_starts c.args.start c.requires)
+loop-at-init c = going_starts c.args.start c.fresh-parts.ensures c.requires
 
 pub put_stop-requires : goal.put_stop-requires
 put_stop-requires c = going_room c.requires c.loop-at.invariant c.loop-at-test.true stop_line (omega (arith, stop_long))
@@ -19,10 +19,10 @@ returns-in_default c =
     going_stops c.requires c.loop-at.invariant c.loop-at-test.true (sym read ∙ c.in_default.is) c.put_stop.ensures.output c.put_stop.ensures.end
 
 pub act-answer-requires : goal.act-answer-requires
-act-answer-requires c = stands_can c.loop-at.invariant.stands c.in-Ok.e c.plugs_of-plugs.ensures
+act-answer-requires c = stands_can c.loop-at.invariant.stands c.in-Ok.e
 
 pub line_for-requires : goal.line_for-requires
-line_for-requires c = (kept_next c.loop-at.invariant.stands c.in-Ok.e c.act-answer.new.self c.act-answer.result c.act-answer.ensures).few
+line_for-requires c = c.act-answer.new.self.flight.few
 
 pub put_line-wrote-requires : goal.put_line-wrote-requires
 put_line-wrote-requires c =

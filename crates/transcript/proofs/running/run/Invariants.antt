@@ -5,7 +5,7 @@ use Prim.Native.Nat.{◌-◌}
 use Rattle.transcript.proofs.running.run.Given as goal
 
 abbrev pub invariant-loop-at : goal.invariant-loop-at
-invariant-loop-at l = Going l.network l.input l.start l.initial.out l.out l.parts l.number l.at l.wrote
+invariant-loop-at l = Going l.stand.network l.input l.start l.initial.out l.out l.parts l.number l.at l.wrote
 
 abbrev pub decreases-loop-at : goal.decreases-loop-at
 decreases-loop-at l = length l.input - l.at

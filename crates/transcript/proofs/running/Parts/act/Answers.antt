@@ -29,19 +29,19 @@ lent n p k d is set_up plugged same within =
 pub returns : goal.returns
 unfolding turn_at
 returns c =
-    let n = c.args.network.now in
+    let n = c.args.stand.now.network in
     let p = c.args.self.now in
     let e = c.args.e in
     let k = c.head_of-k.result in
-    let t = c.turn-t in
+    let t = c.turn-done in
     let free : refusal_at n p e ≡ 0 = sym c.check_event.ensures ∙ ap refused_as c.in_ok-check_event.was in
-    let is : k ≡ head_at n p e = c.head_of-k.ensures.accepted p.flying c.requires.kept free in
+    let is : k ≡ head_at n p e = c.head_of-k.ensures.accepted p.flight.flying (record { whole = p.flight.whole; few = p.flight.few }) free in
     let few : k < 16 = omega (arith, is, c.requires.few free) in
     let within : k < length p.seats = search rules in
     record {
       free = free;
       seat = t.new.seat;
-      turns = subst (λ s. Turns (turn_of n p.up s (copies_of p) e) t.new.up t.new.seat t.new.words t.result.flying t.result.done)
-          (lent n p k _ c.set_up.ensures c.setup_of-setup.ensures c.requires.plugged is within) t.ensures.turns;
+      turns = subst (λ s. Turns (turn_of n p.up s (copies_of p) e) t.new.up t.new.seat t.new.flight.words t.new.flight.flying t.result)
+          (lent n p k _ c.set_up.ensures c.setup_of-setup.ensures c.args.stand.now.cabled is within) t.ensures.turns;
       seats = ap (λ j. set p.seats j t.new.seat) is;
     }
