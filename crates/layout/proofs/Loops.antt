@@ -7,7 +7,7 @@ use borrow.Author.Count.{below_more}
 use denote.Param.Members.{Mut, Called}
 use mathlib.Core.Logic.{by_cases}
 use native.Mathlib.Decide.{ℕ_discrete}
-use Rattle.core.specs.Array.{IsFromFnResult, IsFromFnResultFrom}
+use Rattle.std.specs.Array.{IsFromFnResult, IsFromFnResultFrom}
 use native.Mathlib.Omega.{arith}
 use native.Mathlib.Numerals.{add-one}
 use lib.ListN.{get_or, length, take, drop, set, length-append, length-drop, length-take, drop_of_length-le}
