@@ -41,6 +41,8 @@ pub(crate) fn differing(
     before: &[u8],
     after: &[u8],
 ) -> io::Result<()> {
+    // As long as the other, so that a last piece that is shorter is compared with one as short.
+    let before = &before[..before.len().min(after.len())];
     let pieces = before.chunks(PIECE).zip(after.chunks(PIECE));
     for (i, (old, new)) in pieces.enumerate() {
         if old != new {
