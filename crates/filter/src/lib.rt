@@ -26,7 +26,8 @@ pub struct Recorded {
 fn mix(h: u32, byte: u8) -> u32
     ensures { result ≡ mixed h byte }
 {
-    (h.rotate_left(5) ^ u32::from(byte)).wrapping_add(0x9E37_79B9)
+    let rotated = (h << 5) | (h >> 27);
+    (rotated ^ u32::from(byte)).wrapping_add(0x9E37_79B9)
 }
 
 // The hash of a key, folded over its bytes from the salt on.

@@ -25,11 +25,14 @@ pub fn number_at(bytes: &[u8], at: usize, width: usize) -> u64
 }
 
 // Puts bytes into a buffer from a place on, if they fit; what stands before and behind them stays.
+// Byte by byte: `copy_from_slice` would have an archive for C ask its linker for `memmove`.
 pub fn put_at(buffer: &mut [u8], at: usize, bytes: &[u8])
     ensures { buffer.new ≡ put_in buffer.old at bytes.now }
 {
     if at <= buffer.len() && bytes.len() <= buffer.len() - at {
-        buffer[at..at + bytes.len()].copy_from_slice(bytes);
+        for (i, byte) in bytes.iter().enumerate() {
+            buffer[at + i] = *byte;
+        }
     }
 }
 
