@@ -237,17 +237,18 @@ pub(crate) fn print_counters(rt: &impl Print, c: &Counters) -> io::Result<()> {
 // What came of a step's copies, of which none is cut; where it was, and the frame's addresses.
 pub(crate) fn print_report(rt: &impl Print, done: Done) -> io::Result<()> {
     match done {
-        Done::Stepped(r) => {
-            let sent = Sent(r.verdict);
-            print!(rt;
-                "report {sent} {} {} 0 {:08x} {}",
-                r.placed, r.lost, r.received, r.overwrote as u8
-            )?;
-            println!(rt;
-                " {} {} {:016x} {:016x}",
-                r.switch, r.port, r.source, r.destination
-            )
-        }
+        Done::Stepped(r) => println!(rt;
+            "report {} {} {} 0 {:08x} {} {} {} {:016x} {:016x}",
+            Sent(r.verdict),
+            r.placed,
+            r.lost,
+            r.received,
+            r.overwrote as u8,
+            r.switch,
+            r.port,
+            r.source,
+            r.destination
+        ),
         Done::Linked(cut) => println!(rt; "report K 0000 0 0 0 0 0 0 {cut} 00000000 0"),
     }
 }

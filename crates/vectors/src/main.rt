@@ -18,11 +18,11 @@ mod token;
 use benches::{Fresh, Happening};
 use frames::{Strip, Tag};
 use heads::Step;
-use runs::Run;
 use std::io::{self, Read};
 use token::{Token, Tokens};
 
-// A call: what a line asks for.
+// A call: what a line asks for. A whole input is too large to go by value: the calls on one are functions, `read` and
+// `run`, that lend a room for it.
 pub(crate) trait Call: Token {
     fn answer<P: Print>(self, rt: &P) -> io::Result<()>;
 }
@@ -33,7 +33,7 @@ const INPUT: usize = 262_144;
 fn read_and_answer<C: Call + Drop>(rt: &impl Print, line: Tokens<'_>) -> io::Result<()> {
     match line.whole::<C>() {
         Some(call) => call.answer(rt),
-        None => println!(rt; "unreadable"),
+        None => print::unreadable(rt),
     }
 }
 
@@ -46,12 +46,12 @@ fn answer(rt: &impl Print, line: &[u8]) -> io::Result<()> {
         b"step" => read_and_answer::<Step>(rt, rest)?,
         b"tag" => read_and_answer::<Tag>(rt, rest)?,
         b"strip" => read_and_answer::<Strip>(rt, rest)?,
-        b"read" => read_and_answer::<stands::Read>(rt, rest)?,
+        b"read" => stands::read(rt, rest)?,
         b"write" => read_and_answer::<stands::Write>(rt, rest)?,
         b"fresh" => read_and_answer::<Fresh>(rt, rest)?,
         b"event" => read_and_answer::<Happening>(rt, rest)?,
-        b"run" => read_and_answer::<Run>(rt, rest)?,
-        _ => println!(rt; "unreadable")?,
+        b"run" => runs::run(rt, rest)?,
+        _ => print::unreadable(rt)?,
     }
     println!(rt; "end")
 }

@@ -30,6 +30,10 @@ impl fmt::Display for Fields {
     }
 }
 
+pub(crate) fn unreadable(rt: &impl Print) -> io::Result<()> {
+    println!(rt; "unreadable")
+}
+
 pub(crate) fn refused(rt: &impl Print, why: Refusal) -> io::Result<()> {
     println!(rt; "refused {why}")
 }

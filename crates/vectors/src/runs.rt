@@ -1,8 +1,8 @@
 // A whole run: a description, and event after event on its fresh bench, each with its line and its
 // report.
 use crate::benches::{print_bench, print_counters, print_report};
-use crate::token::{Input, Token, Tokens};
-use crate::{Call, print};
+use crate::print;
+use crate::token::{INPUT, Tokens};
 use bench::Bench;
 use counters::Counters;
 use event::{Event, letter_of, read_event, size_of};
@@ -13,18 +13,6 @@ use turn::{Done, received_by, refusal_of, verdict_of};
 
 // An event's line is shorter.
 const LINE: usize = 40;
-
-#[derive(Clone, Copy)]
-pub(crate) struct Run {
-    input: Input,
-}
-
-impl Token for Run {
-    fn read(line: &mut Tokens<'_>) -> Option<Run> {
-        let input = line.read()?;
-        Some(Run { input })
-    }
-}
 
 fn print_line(rt: &impl Print, l: Line) -> io::Result<()> {
     let mut line = [0u8; LINE];
@@ -82,21 +70,23 @@ fn run_from(
     Ok(())
 }
 
-impl Call for Run {
-    fn answer<P: Print>(self, rt: &P) -> io::Result<()> {
-        let input = self.input.0.all();
-        let described = match network::read(input) {
-            Ok(described) => described,
-            Err(why) => return print::refused(rt, why),
-        };
-        // What was read is a network that the writer accepts.
-        let mut bench = match Bench::fresh(&described.network) {
-            Ok(bench) => bench,
-            Err(why) => return print::refused(rt, why),
-        };
-        let mut counters = Counters::zero();
-        run_from(rt, input, described.end, &mut bench, &mut counters)?;
-        print_bench(rt, &bench)?;
-        print_counters(rt, &counters)
-    }
+pub(crate) fn run(rt: &impl Print, line: Tokens<'_>) -> io::Result<()> {
+    let mut room = [0; INPUT];
+    let Some(long) = line.whole_input(&mut room) else {
+        return print::unreadable(rt);
+    };
+    let input = &room[..long];
+    let described = match network::read(input) {
+        Ok(described) => described,
+        Err(why) => return print::refused(rt, why),
+    };
+    // What was read is a network that the writer accepts.
+    let mut bench = match Bench::fresh(&described.network) {
+        Ok(bench) => bench,
+        Err(why) => return print::refused(rt, why),
+    };
+    let mut counters = Counters::zero();
+    run_from(rt, input, described.end, &mut bench, &mut counters)?;
+    print_bench(rt, &bench)?;
+    print_counters(rt, &counters)
 }

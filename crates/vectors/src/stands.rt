@@ -1,13 +1,8 @@
 // A stand's network: read, described, printed.
-use crate::token::{Input, Output, Token, Tokens};
+use crate::token::{INPUT, Output, Token, Tokens};
 use crate::{Call, print};
 use network::{Host, Link, Network, Port, Switch};
 use std::io;
-
-#[derive(Clone, Copy)]
-pub(crate) struct Read {
-    input: Input,
-}
 
 #[derive(Clone, Copy)]
 pub(crate) struct Write {
@@ -65,13 +60,6 @@ impl Token for Network {
     }
 }
 
-impl Token for Read {
-    fn read(line: &mut Tokens<'_>) -> Option<Read> {
-        let input = line.read()?;
-        Some(Read { input })
-    }
-}
-
 impl Token for Write {
     fn read(line: &mut Tokens<'_>) -> Option<Write> {
         Some(Write {
@@ -116,15 +104,17 @@ pub(crate) fn print_network(rt: &impl Print, n: &Network) -> io::Result<()> {
     print_links(rt, n)
 }
 
-impl Call for Read {
-    fn answer<P: Print>(self, rt: &P) -> io::Result<()> {
-        match network::read(self.input.0.all()) {
-            Ok(d) => {
-                println!(rt; "read {}", d.end)?;
-                print_network(rt, &d.network)
-            }
-            Err(why) => print::refused(rt, why),
+pub(crate) fn read(rt: &impl Print, line: Tokens<'_>) -> io::Result<()> {
+    let mut room = [0; INPUT];
+    let Some(long) = line.whole_input(&mut room) else {
+        return print::unreadable(rt);
+    };
+    match network::read(&room[..long]) {
+        Ok(d) => {
+            println!(rt; "read {}", d.end)?;
+            print_network(rt, &d.network)
         }
+        Err(why) => print::refused(rt, why),
     }
 }
 

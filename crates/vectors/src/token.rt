@@ -61,11 +61,24 @@ impl<'a> Tokens<'a> {
     // What all that is left of the line says.
     pub(crate) fn whole<T: Token + Drop>(mut self) -> Option<T> {
         let read = self.read()?;
-        if self.rest.is_empty() {
-            Some(read)
-        } else {
-            None
-        }
+        self.end()?;
+        Some(read)
+    }
+
+    // A whole input, into a room of zeros, from all that is left of the line: bytes, and so many zeros behind them; how
+    // many in all.
+    pub(crate) fn whole_input(mut self, room: &mut [u8]) -> Option<usize>
+        ensures { IfSome result (λ n. n ≤ length room.new) }
+    {
+        let count = self.bytes(room)?;
+        let long = count + self.at_most(room.len() - count)?;
+        self.end()?;
+        Some(long)
+    }
+
+    // The line's end.
+    fn end(&self) -> Option<()> {
+        if self.rest.is_empty() { Some(()) } else { None }
     }
 
     // A byte, not a token of its own.
@@ -209,19 +222,6 @@ impl<const N: usize> Token for Bytes<N> {
         let mut room = [0; N];
         let long = line.bytes(&mut room)?;
         Some(Bytes { room, long })
-    }
-}
-
-// A whole input: bytes, and so many zeros behind them.
-#[derive(Clone, Copy)]
-pub(crate) struct Input(pub Bytes<INPUT>);
-
-impl Token for Input {
-    fn read(line: &mut Tokens<'_>) -> Option<Input> {
-        let mut room = [0; INPUT];
-        let count = line.bytes(&mut room)?;
-        let long = count + line.at_most(INPUT - count)?;
-        Some(Input(Bytes { room, long }))
     }
 }
 
