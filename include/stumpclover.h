@@ -17,9 +17,8 @@
  * lend other memory. sc_fresh and sc_event take some 200 kilobytes of stack, the others at most 8.
  *
  * An address is a number below 2^48, its first byte on the wire the highest. Bit p of a mask stands
- * for port p. The state is plain arrays, so that it can lie anywhere; a step copies a table's 640
- * bytes in, and out again where it is accepted, and works on filter, frame and output where they lie.
- * The structs below name the arrays, and the inline functions at the end pass a struct's parts on. */
+ * for port p. The state is plain arrays, so that it can lie anywhere and a step copies nothing; the
+ * structs below name them, and the inline functions at the end pass a struct's parts on. */
 #ifndef STUMPCLOVER_H
 #define STUMPCLOVER_H
 

@@ -1,28 +1,26 @@
 // A head's switch, lent as its next nonce, its table's three arrays and its filter. The parameters
 // are those of the C functions, which pass numbers and slices only.
-ghost use Rattle.std.specs.Prelude.{[], ◌∷◌, ◌≡◌, IfOk, MatchOption, false, length, true};
+ghost use Rattle.std.specs.Prelude.{[], ◌∷◌, ◌≡◌, length, true};
 ghost use Rattle.refusal.specs.Number.{refused_as};
-ghost use Rattle.table.specs.Table.{table_of};
+ghost use Rattle.table.specs.Table.{Sized, empty_table, table_of};
 ghost use Rattle.rules.specs.Verdict.{report_values};
-ghost use Rattle.engine.specs.Head.{FreshensLent, LooksUp, StepsLent, fresh_of, fresh_refusal, setup_refusal, sized, step_refusal, switch_in};
+ghost use Rattle.engine.specs.Head.{FreshensLent, LooksUp, StepsLent, fresh_refusal, setup_refusal, sized, step_refusal, switch_in};
 
 use head::Switch;
+use head::inner::step_in;
 use refusal::Refusal;
 use rules::{Report, Setup, letter_of, sent_by};
-use table::{Entry, Table};
+use table::{Entry, Table, lookup_in};
 
 const REPORT: usize = 8;
 
-// The table of three arrays that are lent, where these have their 64 elements each.
+// Whether the table's arrays have their 64 elements each.
 #[tactic(auto, unfolding(crate::specs::Head::sized))]
-fn table_in(addresses: &[u64], via: &[u8], hops: &[u8]) -> Option<Table>
-    ensures { MatchOption result (sized (table_of addresses.now via.now hops.now) ≡ false) (λ t. (sized (table_of addresses.now via.now hops.now) ≡ true) × (t ≡ table_of addresses.now via.now hops.now)) }
+fn is_sized(addresses: &[u64], via: &[u8], hops: &[u8]) -> bool
+    ensures test { result ≡ sized (table_of addresses.now via.now hops.now) }
+    ensures sized { result ≡ true → Sized (table_of addresses.now via.now hops.now) }
 {
-    Some(Table {
-        addresses: addresses.try_into().ok()?,
-        ports: via.try_into().ok()?,
-        hops: hops.try_into().ok()?,
-    })
+    addresses.len() == Table::SLOTS && via.len() == Table::SLOTS && hops.len() == Table::SLOTS
 }
 
 // A report's numbers.
@@ -64,9 +62,9 @@ pub fn sc_step(
 ) -> u8
     ensures { StepsLent (step_refusal (switch_in ports live host limit salt nonce.old addresses.old via.old hops.old) filter.old port frame.now (length out.old) (length report.old)) (switch_in ports live host limit salt nonce.old addresses.old via.old hops.old) filter.old port frame.now out.old report.old result (switch_in ports live host limit salt nonce.new addresses.new via.new hops.new) filter.new out.new report.new }
 {
-    let Some(table) = table_in(addresses, via, hops) else {
+    if !is_sized(addresses, via, hops) {
         return 1;
-    };
+    }
     if report.len() != REPORT {
         return 1;
     }
@@ -77,18 +75,9 @@ pub fn sc_step(
         limit,
         salt,
     };
-    let mut switch = Switch {
-        setup,
-        nonce: *nonce,
-        table,
-    };
-    match switch.step(filter, port, frame, out) {
+    match step_in(setup, nonce, addresses, via, hops, filter, port, frame, out) {
         Err(r) => r.number(),
         Ok(r) => {
-            *nonce = switch.nonce;
-            addresses.copy_from_slice(&switch.table.addresses);
-            via.copy_from_slice(&switch.table.ports);
-            hops.copy_from_slice(&switch.table.hops);
             report.copy_from_slice(&numbers_of(r));
             0
         }
@@ -98,11 +87,9 @@ pub fn sc_step(
 // The bytes of the longest filter.
 const CELLS: usize = 2560;
 
-// A switch that has met no frame: table empty, next nonce 0. Refusal 1 with an empty filter of so
-// many bytes comes first.
-fn fresh(setup: Setup, bytes: usize) -> Result<Switch, Refusal>
-    ensures refused { refused_as result ≡ setup_refusal setup bytes }
-    ensures made { IfOk result (λ s. s ≡ fresh_of setup) }
+// The refusal of a switch that has met no frame, with an empty filter of so many bytes.
+fn check_fresh(setup: Setup, bytes: usize) -> Result<(), Refusal>
+    ensures { refused_as result ≡ setup_refusal setup bytes }
 {
     Refusal::IllFormed.when(CELLS < bytes)?;
     let switch = Switch {
@@ -111,8 +98,18 @@ fn fresh(setup: Setup, bytes: usize) -> Result<Switch, Refusal>
         table: Table::empty(),
     };
     let cells = [0u8; CELLS];
-    switch.check(&cells[..bytes])?;
-    Ok(switch)
+    switch.check(&cells[..bytes])
+}
+
+// Empties a table.
+#[tactic(auto, unfolding(table::specs::Table::empty_table))]
+fn clear_table(addresses: &mut [u64], via: &mut [u8], hops: &mut [u8])
+    requires { Sized (table_of addresses.old via.old hops.old) }
+    ensures { table_of addresses.new via.new hops.new ≡ empty_table }
+{
+    addresses.fill(0);
+    via.fill(0);
+    hops.fill(0);
 }
 
 // Makes a switch that has met no frame: table and filter empty, next nonce 0.
@@ -131,7 +128,7 @@ pub fn sc_switch_fresh(
 ) -> u8
     ensures { FreshensLent (fresh_refusal (switch_in ports live host limit salt nonce.old addresses.old via.old hops.old) filter.old) (switch_in ports live host limit salt nonce.old addresses.old via.old hops.old) filter.old result (switch_in ports live host limit salt nonce.new addresses.new via.new hops.new) filter.new }
 {
-    if table_in(addresses, via, hops).is_none() {
+    if !is_sized(addresses, via, hops) {
         return 1;
     }
     let setup = Setup {
@@ -141,13 +138,11 @@ pub fn sc_switch_fresh(
         limit,
         salt,
     };
-    match fresh(setup, filter.len()) {
+    match check_fresh(setup, filter.len()) {
         Err(r) => r.number(),
-        Ok(made) => {
-            *nonce = made.nonce;
-            addresses.copy_from_slice(&made.table.addresses);
-            via.copy_from_slice(&made.table.ports);
-            hops.copy_from_slice(&made.table.hops);
+        Ok(()) => {
+            *nonce = 0;
+            clear_table(addresses, via, hops);
             filter.fill(0);
             0
         }
@@ -167,10 +162,10 @@ pub fn sc_lookup(
 ) -> u8
     ensures { LooksUp (table_of addresses.now via.now hops.now) address (found.old ∷ port.old ∷ hc.old ∷ []) result (found.new ∷ port.new ∷ hc.new ∷ []) }
 {
-    let Some(table) = table_in(addresses, via, hops) else {
+    if !is_sized(addresses, via, hops) {
         return 1;
-    };
-    let entry = table.lookup(address);
+    }
+    let entry = lookup_in(addresses, via, hops, address);
     *found = entry.is_some() as u8;
     let e = entry.unwrap_or(Entry { port: 0, hops: 0 });
     *port = e.port;

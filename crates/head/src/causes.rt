@@ -3,7 +3,7 @@
 ghost use Rattle.std.specs.Prelude.{◌≡◌, ◌^◌, ◌<◌, OnOk, leb, length};
 ghost use Rattle.refusal.specs.Number.{refused_as};
 ghost use Rattle.refusal.specs.Refusal.{first};
-ghost use Rattle.table.specs.Table.{Sized};
+ghost use Rattle.table.specs.Table.{Sized, table_of};
 ghost use Rattle.head.specs.Switch.{switch_causes};
 ghost use Rattle.head.specs.Step as spec;
 
@@ -26,15 +26,36 @@ impl Switch {
         ensures refused { refused_as result ≡ first (switch_causes self.now filter.now) }
         ensures sized { OnOk result (Sized self.now.table) }
     {
-        let s = self.setup;
-        Refusal::IllFormed.when(is_outside(1, 16, s.ports as usize))?;
-        Refusal::IllFormed.when(names_beyond(s.ports, s.live))?;
-        Refusal::IllFormed.when(names_beyond(s.ports, s.host))?;
-        Refusal::IllFormed.when(is_outside(1, 62, s.limit as usize))?;
-        Refusal::IllFormed.when(Frame::NONCES <= self.nonce)?;
-        Refusal::IllFormed.when(!self.table.is_well_formed(s.ports))?;
-        Refusal::IllFormed.when(!filter::is_well_formed(filter))
+        check_switch(
+            self.setup,
+            self.nonce,
+            &self.table.addresses,
+            &self.table.ports,
+            &self.table.hops,
+            filter,
+        )
     }
+}
+
+// Refusal 1 of a switch lent as its parts.
+pub fn check_switch(
+    s: Setup,
+    nonce: u32,
+    addresses: &[u64],
+    ports: &[u8],
+    hops: &[u8],
+    filter: &[u8],
+) -> Result<(), Refusal>
+    requires { Sized (table_of addresses.now ports.now hops.now) }
+    ensures { refused_as result ≡ first (switch_causes (spec.switch_of s nonce (table_of addresses.now ports.now hops.now)) filter.now) }
+{
+    Refusal::IllFormed.when(is_outside(1, 16, s.ports as usize))?;
+    Refusal::IllFormed.when(names_beyond(s.ports, s.live))?;
+    Refusal::IllFormed.when(names_beyond(s.ports, s.host))?;
+    Refusal::IllFormed.when(is_outside(1, 62, s.limit as usize))?;
+    Refusal::IllFormed.when(Frame::NONCES <= nonce)?;
+    Refusal::IllFormed.when(!table::is_well_formed_in(addresses, ports, hops, s.ports))?;
+    Refusal::IllFormed.when(!filter::is_well_formed(filter))
 }
 
 // Cause 4.

@@ -1,6 +1,6 @@
 // Rules 1 to 11 of the practical AXE algorithm, as document 01 fixes them: flood, drop duplicates,
-// learn. Each rule is a function of its own number, on the table and the filter as they are lent.
-// What a rule leaves is said of all of them at once.
+// learn. Each rule is a function of its own number, on the table's three arrays and the filter as
+// they are lent. What a rule leaves is said of all of them at once.
 #![tactic(auto)]
 
 pub mod masks;
@@ -8,14 +8,14 @@ pub mod masks;
 ghost use Rattle.std.specs.Prelude.{false, List, ◌≡◌, ℕ, ◌<◌};
 ghost use Rattle.filter.specs.Filter.{holds, overwrites, recorded};
 ghost use Rattle.frame.specs.Frame.{header_in};
-ghost use Rattle.table.specs.Table.{learned_of};
+ghost use Rattle.table.specs.Table.{Sized, learned_of, table_of};
 ghost use Rattle.rules.specs.Rules as spec;
 ghost use Rattle.rules.specs.Verdict.{letter_of, sending_of, sent_by};
 
 use filter::Recorded;
 use frame::{Frame, Header};
 use masks::{all_but, has_port, only_port};
-use table::{Entry, Table};
+use table::{Entry, Table, erase_in, learn_in, lookup_in};
 
 #[derive(Clone, Copy, PartialEq, Eq)]
 pub struct Setup {
@@ -122,15 +122,39 @@ fn hop_header(frame: &[u8]) -> Header
 }
 
 // Rule 1.
-#[tactic(auto, unfolding(crate::specs::Rules::rule1))]
 pub fn rule1(s: Setup, nonce: u32, table: &Table, port: u8, frame: &[u8]) -> Arrival
     ensures { result ≡ spec.rule1 s nonce table.now port frame.now }
+{
+    rule1_in(
+        s,
+        nonce,
+        &table.addresses,
+        &table.ports,
+        &table.hops,
+        port,
+        frame,
+    )
+}
+
+// Rule 1 on a table's lent arrays.
+#[tactic(auto, unfolding(crate::specs::Rules::rule1))]
+pub fn rule1_in(
+    s: Setup,
+    nonce: u32,
+    addresses: &[u64],
+    ports: &[u8],
+    hops: &[u8],
+    port: u8,
+    frame: &[u8],
+) -> Arrival
+    requires { Sized (table_of addresses.now ports.now hops.now) }
+    ensures { result ≡ spec.rule1 s nonce (table_of addresses.now ports.now hops.now) port frame.now }
 {
     let source = frame::source_of(frame);
     let header = if has_port(s.host, port) {
         Header {
             l: true,
-            f: table.lookup(source).is_none(),
+            f: lookup_in(addresses, ports, hops, source).is_none(),
             hc: 1,
             nonce,
         }
@@ -168,11 +192,13 @@ fn plainly(verdict: Verdict) -> Outcome
 
 // Rule 2, where the hop count is above the limit.
 #[tactic(auto, unfolding(crate::specs::Rules::rule2))]
-fn rule2(table: &mut Table, a: Arrival) -> Outcome
-    ensures { (f : List ℕ) → spec.left table.new f result ≡ spec.rule2 table.old f a }
+fn rule2(addresses: &mut [u64], ports: &mut [u8], hops: &mut [u8], a: Arrival) -> Outcome
+    requires { Sized (table_of addresses.old ports.old hops.old) }
+    ensures after { (f : List ℕ) → spec.left (table_of addresses.new ports.new hops.new) f result ≡ spec.rule2 (table_of addresses.old ports.old hops.old) f a }
+    ensures sized { Sized (table_of addresses.new ports.new hops.new) }
 {
     if !a.header.f {
-        table.erase(a.destination);
+        erase_in(addresses, ports, hops, a.destination);
     }
     plainly(Verdict::X)
 }
@@ -220,39 +246,66 @@ fn learns(a: Arrival, duplicate: bool, found: Option<Entry>) -> bool
 }
 
 #[tactic(auto, unfolding(crate::specs::Rules::rule5))]
-fn rule5(table: &mut Table, a: Arrival, duplicate: bool, found: Option<Entry>)
-    ensures { table.new ≡ spec.rule5 table.old a duplicate found }
+fn rule5(
+    addresses: &mut [u64],
+    ports: &mut [u8],
+    hops: &mut [u8],
+    a: Arrival,
+    duplicate: bool,
+    found: Option<Entry>,
+)
+    requires { Sized (table_of addresses.old ports.old hops.old) }
+    ensures table { table_of addresses.new ports.new hops.new ≡ spec.rule5 (table_of addresses.old ports.old hops.old) a duplicate found }
+    ensures sized { Sized (table_of addresses.new ports.new hops.new) }
 {
     if erases(a, duplicate, found) {
-        table.erase(a.destination);
+        erase_in(addresses, ports, hops, a.destination);
     }
 }
 
 // Says whether the table was full.
 #[tactic(auto, unfolding(crate::specs::Rules::rule6))]
-fn rule6(table: &mut Table, a: Arrival, duplicate: bool, found: Option<Entry>) -> bool
-    ensures { learned_of result table.new ≡ spec.rule6 table.old a duplicate found }
+fn rule6(
+    addresses: &mut [u64],
+    ports: &mut [u8],
+    hops: &mut [u8],
+    a: Arrival,
+    duplicate: bool,
+    found: Option<Entry>,
+) -> bool
+    requires { Sized (table_of addresses.old ports.old hops.old) }
+    ensures learned { learned_of result (table_of addresses.new ports.new hops.new) ≡ spec.rule6 (table_of addresses.old ports.old hops.old) a duplicate found }
+    ensures sized { Sized (table_of addresses.new ports.new hops.new) }
 {
-    learns(a, duplicate, found) && table.learn(a.source, a.port, a.header.hc)
+    learns(a, duplicate, found) && learn_in(addresses, ports, hops, a.source, a.port, a.header.hc)
 }
 
 // Rules 4 to 6: the source's entry is read before rule 5 may erase it.
 #[tactic(auto, unfolding(crate::specs::Rules::learning))]
-fn learning(table: &mut Table, a: Arrival, duplicate: bool) -> bool
-    ensures { learned_of result table.new ≡ spec.learning table.old a duplicate }
+fn learning(
+    addresses: &mut [u64],
+    ports: &mut [u8],
+    hops: &mut [u8],
+    a: Arrival,
+    duplicate: bool,
+) -> bool
+    requires { Sized (table_of addresses.old ports.old hops.old) }
+    ensures learned { learned_of result (table_of addresses.new ports.new hops.new) ≡ spec.learning (table_of addresses.old ports.old hops.old) a duplicate }
+    ensures sized { Sized (table_of addresses.new ports.new hops.new) }
 {
-    let found = table.lookup(a.source);
-    rule5(table, a, duplicate, found);
-    rule6(table, a, duplicate, found)
+    let found = lookup_in(addresses, ports, hops, a.source);
+    rule5(addresses, ports, hops, a, duplicate, found);
+    rule6(addresses, ports, hops, a, duplicate, found)
 }
 
 // The entry of an address whose port is up.
 #[tactic(auto, unfolding(crate::specs::Rules::standing))]
-fn standing(s: Setup, table: &Table, address: u64) -> Option<Entry>
-    ensures entry { result ≡ spec.standing s table.now address }
+fn standing(s: Setup, addresses: &[u64], ports: &[u8], hops: &[u8], address: u64) -> Option<Entry>
+    requires { Sized (table_of addresses.now ports.now hops.now) }
+    ensures entry { result ≡ spec.standing s (table_of addresses.now ports.now hops.now) address }
     ensures port { spec.PortWithin result }
 {
-    table.lookup(address).filter(|e| has_port(s.live, e.port))
+    lookup_in(addresses, ports, hops, address).filter(|e| has_port(s.live, e.port))
 }
 
 // Rule 9, where no entry for the destination stands. The first switch keeps L, and its flood leaves the arrival port out.
@@ -288,9 +341,10 @@ fn rule9(s: Setup, filter: &mut [u8], a: Arrival) -> Outcome
 
 // Rule 10, where the destination's entry names the arrival port.
 #[tactic(auto, unfolding(crate::specs::Rules::rule10))]
-fn rule10(table: &mut Table, a: Arrival) -> Outcome
-    requires { a.port < 16 }
-    ensures { (f : List ℕ) → spec.left table.new f result ≡ spec.rule10 table.old f a }
+fn rule10(addresses: &mut [u64], ports: &mut [u8], hops: &mut [u8], a: Arrival) -> Outcome
+    requires { Sized (table_of addresses.old ports.old hops.old) × (a.port < 16) }
+    ensures after { (f : List ℕ) → spec.left (table_of addresses.new ports.new hops.new) f result ≡ spec.rule10 (table_of addresses.old ports.old hops.old) f a }
+    ensures sized { Sized (table_of addresses.new ports.new hops.new) }
 {
     if a.header.l {
         return plainly(Verdict::H(Send {
@@ -301,21 +355,29 @@ fn rule10(table: &mut Table, a: Arrival) -> Outcome
             },
         }));
     }
-    table.erase(a.destination);
+    erase_in(addresses, ports, hops, a.destination);
     plainly(Verdict::E)
 }
 
 // Rules 9 to 11, by the destination's entry.
 #[tactic(auto, unfolding(crate::specs::Rules::onward, crate::specs::Rules::rule11))]
-fn onward(s: Setup, table: &mut Table, filter: &mut [u8], a: Arrival) -> Outcome
-    requires { a.port < 16 }
-    ensures { spec.left table.new filter.new result ≡ spec.onward s table.old filter.old a }
+fn onward(
+    s: Setup,
+    addresses: &mut [u64],
+    ports: &mut [u8],
+    hops: &mut [u8],
+    filter: &mut [u8],
+    a: Arrival,
+) -> Outcome
+    requires { Sized (table_of addresses.old ports.old hops.old) × (a.port < 16) }
+    ensures after { spec.left (table_of addresses.new ports.new hops.new) filter.new result ≡ spec.onward s (table_of addresses.old ports.old hops.old) filter.old a }
+    ensures sized { Sized (table_of addresses.new ports.new hops.new) }
 {
-    let Some(e) = standing(s, table, a.destination) else {
+    let Some(e) = standing(s, addresses, ports, hops, a.destination) else {
         return rule9(s, filter, a);
     };
     if e.port == a.port {
-        return rule10(table, a);
+        return rule10(addresses, ports, hops, a);
     }
     plainly(Verdict::U(Send {
         mask: only_port(e.port),
@@ -327,13 +389,16 @@ fn onward(s: Setup, table: &mut Table, filter: &mut [u8], a: Arrival) -> Outcome
 #[tactic(auto, unfolding(crate::specs::Rules::forwarding))]
 fn forwarding(
     s: Setup,
-    table: &mut Table,
+    addresses: &mut [u64],
+    ports: &mut [u8],
+    hops: &mut [u8],
     filter: &mut [u8],
     a: Arrival,
     duplicate: bool,
 ) -> Outcome
-    requires { a.port < 16 }
-    ensures { spec.left table.new filter.new result ≡ spec.forwarding s table.old filter.old a duplicate }
+    requires { Sized (table_of addresses.old ports.old hops.old) × (a.port < 16) }
+    ensures after { spec.left (table_of addresses.new ports.new hops.new) filter.new result ≡ spec.forwarding s (table_of addresses.old ports.old hops.old) filter.old a duplicate }
+    ensures sized { Sized (table_of addresses.new ports.new hops.new) }
 {
     if duplicate {
         return plainly(Verdict::D);
@@ -344,7 +409,7 @@ fn forwarding(
             header: a.header,
         }));
     }
-    onward(s, table, filter, a)
+    onward(s, addresses, ports, hops, filter, a)
 }
 
 fn report_of(full: bool, overwrote: bool, o: Outcome) -> Report
@@ -358,16 +423,39 @@ fn report_of(full: bool, overwrote: bool, o: Outcome) -> Report
 }
 
 // Rules 2 to 11.
-#[tactic(auto, unfolding(crate::specs::Rules::rules))]
 pub fn rules(s: Setup, table: &mut Table, filter: &mut [u8], a: Arrival) -> Report
     requires { a.port < 16 }
     ensures { spec.ruled_as table.new filter.new result ≡ spec.rules s table.old filter.old a }
 {
+    rules_in(
+        s,
+        &mut table.addresses,
+        &mut table.ports,
+        &mut table.hops,
+        filter,
+        a,
+    )
+}
+
+// Rules 2 to 11 on a table's lent arrays.
+#[tactic(auto, unfolding(crate::specs::Rules::rules))]
+pub fn rules_in(
+    s: Setup,
+    addresses: &mut [u64],
+    ports: &mut [u8],
+    hops: &mut [u8],
+    filter: &mut [u8],
+    a: Arrival,
+) -> Report
+    requires { Sized (table_of addresses.old ports.old hops.old) × (a.port < 16) }
+    ensures after { spec.ruled_as (table_of addresses.new ports.new hops.new) filter.new result ≡ spec.rules s (table_of addresses.old ports.old hops.old) filter.old a }
+    ensures sized { Sized (table_of addresses.new ports.new hops.new) }
+{
     if s.limit < a.header.hc {
-        return report_of(false, false, rule2(table, a));
+        return report_of(false, false, rule2(addresses, ports, hops, a));
     }
     let asked = rule3(s, filter, a);
-    let full = learning(table, a, asked.duplicate);
-    let o = forwarding(s, table, filter, a, asked.duplicate);
+    let full = learning(addresses, ports, hops, a, asked.duplicate);
+    let o = forwarding(s, addresses, ports, hops, filter, a, asked.duplicate);
     report_of(full, asked.overwrote, o)
 }

@@ -1,7 +1,7 @@
 -- A frame that goes out has the room that writing asks for.
 use mathlib.Core.Path.{sym, ◌∙◌}
 use Rattle.head.proofs.Output.{goes_out}
-use Rattle.head.proofs.write.Goals as goal
+use Rattle.head.proofs.inner.write.Goals as goal
 
 pub returns-in-Some : goal.returns-in-Some
 returns-in-Some c =
