@@ -1,9 +1,10 @@
 -- Document 01, "The bench": what a bench is, and a fresh one. The list of copies is the start of an array; what a count leaves unused is no part of the bench.
 use Rattle.std.specs.Prelude.{ℕ, zero, suc, Bool, true, ◌≡◌, List, [], ◌∷◌, ◌++◌, Result, IfOk, get_or, replicate, take}
 use Rattle.network.specs.declared.Network.{Network}
-use Rattle.network.specs.Network.{most_switches, most_links, padded}
+use Rattle.network.specs.Network.{empty_network, most_switches, most_links, padded}
 use Rattle.network.specs.Checks.{network_fault}
 use Rattle.refusal.specs.declared.Refusal.{Refusal}
+use Rattle.refusal.specs.Refusal.{leaves}
 use Rattle.refusal.specs.Number.{refused_as}
 use Rattle.rules.specs.declared.Setup.{Setup}
 use Rattle.cabling.specs.Cabling.{plugs_of, setup_of}
@@ -45,6 +46,10 @@ all_up = replicate most_links true
 -- a fresh bench
 unfoldable pub fresh_bench : Network → Bench
 fresh_bench n = bench_of n all_up (padded no_seat most_switches (fresh_heads n all_up n.nswitches)) (replicate most no_copy) 0
+
+-- what stands beside the answer: the fresh bench, that of the empty network where the writer would refuse this one
+abbrev pub fresh_or_empty : Network → Bench
+fresh_or_empty n = fresh_bench (leaves (network_fault n) empty_network n)
 
 -- a network that the writer would refuse is refused with that number; of any other there is its fresh bench
 pub record Freshens (n : Network) (r : Result Bench Refusal) : Type 0 where

@@ -7,7 +7,7 @@
 
 ghost use Rattle.std.specs.Prelude.{true, ◌≡◌, ◌<◌, ◌≤◌, length};
 ghost use Rattle.network.specs.Network.{most_switches};
-ghost use Rattle.bench.specs.Bench.{Freshens, fresh_bench};
+ghost use Rattle.bench.specs.Bench.{Freshens, fresh_bench, fresh_or_empty};
 ghost use Rattle.bench.specs.Events as spec;
 ghost use Rattle.bench.specs.Events.{event_of, happened_as};
 ghost use Rattle.bench.specs.Shape.{Accepted, InShape, in_shape};
@@ -78,6 +78,16 @@ impl Bench {
     {
         n.check()?;
         Ok(Bench::new(n))
+    }
+
+    // The bench that stands beside that answer: of a network that is refused, the empty one's.
+    pub fn fresh_or_empty(n: &Network) -> Bench
+        ensures { result ≡ fresh_or_empty n.now }
+    {
+        match Bench::fresh(n) {
+            Ok(bench) => bench,
+            Err(_) => Bench::new(&Network::empty()),
+        }
     }
 
     // Whether the bench is in shape.

@@ -9,7 +9,7 @@ use Rattle.refusal.specs.Refusal.{answered}
 use Rattle.refusal.specs.Number.{told}
 use Rattle.refusal.specs.declared.Refusal.{Refusal}
 use Rattle.refusal.specs.OneOutcome.{OneOutcome}
-use Rattle.refusal.proofs.Outcomes.{one_outcome, beside}
+use Rattle.refusal.proofs.Outcomes.{one_outcome, beside, plain}
 use Rattle.network.specs.declared.Description.{Description}
 use Rattle.network.specs.declared.Network.{Network}
 use Rattle.network.specs.Describe.{end_values, image, read_end, read_fault, read_network, write_fault, written}
@@ -38,6 +38,9 @@ read_has_one_outcome b x y p q = both x y p.1 q.1 (told_apart (ends_of x) (ends_
     both (Ok d) (Err r) p q s = let z : ◌≡◌ {A = ℕ} 0 1 = cc in absurd (omega arith)
     both (Err r) (Ok d) p q s = let z : ◌≡◌ {A = ℕ} 0 1 = cc in absurd (omega arith)
     both (Err r) (Err t) p q s = let same : r ≡ t = cc in ap Err same
+
+pub read_or_empty_has_one_outcome : (b : List ℕ) → OneOutcome (λ (n : Network). n ≡ read_network b)
+read_or_empty_has_one_outcome b = one_outcome plain (λ n p. p)
 
 pub write_has_one_outcome : (n : Network) (out : List ℕ)
     → OneOutcome (λ (o : Result ℕ Refusal × List ℕ). (told end_values o.0 ≡ answered (write_fault n (length out)) (length (image n) ∷ [])) × (o.1 ≡ written n out))

@@ -187,6 +187,16 @@ pub fn read(input: &[u8]) -> Result<Description, Refusal>
     Ok(Description { network, end })
 }
 
+// The network that stands beside that answer: of an input that is refused, the empty one.
+pub fn read_or_empty(input: &[u8]) -> Network
+    ensures { result ≡ read_network input.now }
+{
+    match read(input) {
+        Ok(d) => d.network,
+        Err(_) => Network::empty(),
+    }
+}
+
 // Writes the network's description at the output's start, and says how many bytes it takes.
 pub fn write(n: &Network, out: &mut [u8]) -> Result<usize, Refusal>
     ensures answer { told end_values result ≡ answered (write_fault n.now (length out.old)) (length (image n.now) ∷ []) }
