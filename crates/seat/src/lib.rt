@@ -7,7 +7,7 @@ ghost use Rattle.refusal.specs.Refusal.{first};
 ghost use Rattle.refusal.specs.Number.{refused_as};
 ghost use Rattle.table.specs.Table.{Sized};
 ghost use Rattle.head.specs.Switch.{switch_causes};
-ghost use Rattle.seat.specs.Seat.{arrival_of, fresh_seat, from_link, host_header, seated_as, step_of, with_setup};
+ghost use Rattle.seat.specs.Seat.{arrival_of, fresh_seat, from_link, host_header, seat_of, seated_as, step_of, with_setup};
 
 use frame::Header;
 use head::Switch;
@@ -55,34 +55,38 @@ impl Seat {
         self.switch.setup = setup;
     }
 
-    // Rule 1 on a host port: F is set exactly if the source has no entry.
+    // Rule 1 on a host port.
     pub fn from_host(&self, port: u8, source: u64, destination: u64) -> Arrival
         ensures { result ≡ arrival_of port source destination (host_header self.now.switch.nonce self.now.switch.table source) }
     {
-        let header = Header {
-            l: true,
-            f: self.switch.table.lookup(source).is_none(),
-            hc: 1,
-            nonce: self.switch.nonce,
-        };
-        Arrival {
-            port,
-            source,
-            destination,
-            header,
-        }
+        let switch = &self.switch;
+        from_host(switch.nonce, &switch.table, port, source, destination)
     }
 
-    // The rules on what arrives; the nonce advances if that is on a host port.
-    #[tactic(auto, unfolding(crate::specs::Seat::step_of))]
+    // The rules on what arrives.
     pub fn step(&mut self, a: Arrival) -> Report
         requires { a.port < 16 }
         ensures { seated_as self.new result ≡ step_of self.old a }
     {
-        let setup = self.switch.setup;
-        let report = rules(setup, &mut self.switch.table, &mut self.cells, a);
-        self.switch.nonce = nonce_after(setup, self.switch.nonce, a.port);
-        report
+        step_on(&mut self.switch, &mut self.cells, a)
+    }
+}
+
+// Rule 1 on a host port: F is set exactly if the source has no entry.
+pub fn from_host(nonce: u32, table: &Table, port: u8, source: u64, destination: u64) -> Arrival
+    ensures { result ≡ arrival_of port source destination (host_header nonce table.now source) }
+{
+    let header = Header {
+        l: true,
+        f: table.lookup(source).is_none(),
+        hc: 1,
+        nonce,
+    };
+    Arrival {
+        port,
+        source,
+        destination,
+        header,
     }
 }
 
@@ -104,4 +108,17 @@ pub fn from_link(port: u8, source: u64, destination: u64, h: Header) -> Arrival
         destination,
         header,
     }
+}
+
+// The rules on what arrives at a switch, its filter of any length; the nonce advances if that is on a
+// host port.
+#[tactic(auto, unfolding(crate::specs::Seat::step_of))]
+pub fn step_on(switch: &mut Switch, cells: &mut [u8], a: Arrival) -> Report
+    requires { a.port < 16 }
+    ensures { seated_as (seat_of switch.new cells.new) result ≡ step_of (seat_of switch.old cells.old) a }
+{
+    let setup = switch.setup;
+    let report = rules(setup, &mut switch.table, cells, a);
+    switch.nonce = nonce_after(setup, switch.nonce, a.port);
+    report
 }

@@ -10,6 +10,7 @@ ghost use Rattle.refusal.specs.Number.{refused_as};
 ghost use Rattle.network.specs.Network.{most_links};
 ghost use Rattle.flight.specs.Flight.{copies_in, without};
 ghost use Rattle.seat.specs.declared.Seat.{Seat};
+ghost use Rattle.seat.specs.Seat.{seat_of};
 ghost use Rattle.turn.specs.Send.{Written};
 ghost use Rattle.turn.specs.Turn as spec;
 ghost use Rattle.turn.specs.Turn.{CanTake, CanTurn, Kept, Laid, Spares, Turns, head_of, host_of, port_to, presents, received_by, refusal_of, sets, staying, steps, takes, turn_of, verdict_of};
@@ -17,10 +18,11 @@ ghost use Rattle.turn.specs.Turn.{CanTake, CanTurn, Kept, Laid, Spares, Turns, h
 use cabling::{End, Stand, port_of};
 use event::{Event, Setting};
 use flight::{Copy, Flight, copy_at, cut, take_out};
+use head::Switch;
 use network::{Host, Network, Port};
 use refusal::Refusal;
 use rules::{Arrival, Verdict, letter_of};
-use seat::{Seat, from_link};
+use seat::{Seat, from_host, from_link, step_on};
 use sending::send_out;
 
 // What a step on the bench did: enough to count, to capture and to follow a frame by.
@@ -100,17 +102,24 @@ fn port_to(n: &Network, c: Copy) -> Port
     )
 }
 
-// A head steps on an arrival, and what it sends goes out.
-fn step_head(stand: &Stand, seat: &mut Seat, flight: &mut Flight, switch: u8, a: Arrival) -> Done
+// Head k steps on an arrival, and what it sends goes out.
+fn step_head(
+    stand: &Stand,
+    switch: &mut Switch,
+    cells: &mut [u8],
+    flight: &mut Flight,
+    k: u8,
+    a: Arrival,
+) -> Done
     requires { a.port < 16 }
-    ensures turns { (up : List Bool) → Turns (steps stand.now.network up switch seat.old a (copies_in flight.old.flying flight.old.words)) up seat.new flight.new.words flight.new.flying result }
+    ensures turns { (up : List Bool) → Turns (steps stand.now.network up k (seat_of switch.old cells.old) a (copies_in flight.old.flying flight.old.words)) up (seat_of switch.new cells.new) flight.new.words flight.new.flying result }
     ensures words { Written flight.old.flying flight.old.words flight.new.flying flight.new.words }
 {
-    let r = seat.step(a);
+    let r = step_on(switch, cells, a);
     let v = r.verdict;
-    let s = send_out(&stand.plugs, switch, a, v, flight);
+    let s = send_out(&stand.plugs, k, a, v, flight);
     Done::Stepped(Report {
-        switch,
+        switch: k,
         port: a.port,
         source: a.source,
         destination: a.destination,
@@ -123,20 +132,33 @@ fn step_head(stand: &Stand, seat: &mut Seat, flight: &mut Flight, switch: u8, a:
 }
 
 // Kind 4: a host presents a frame and its switch steps at once.
-fn present(stand: &Stand, seat: &mut Seat, flight: &mut Flight, h: Host, to: u64) -> Done
+fn present(
+    stand: &Stand,
+    switch: &mut Switch,
+    cells: &mut [u8],
+    flight: &mut Flight,
+    h: Host,
+    to: u64,
+) -> Done
     requires { h.port.number < 16 }
-    ensures turns { (up : List Bool) → Turns (presents stand.now.network up seat.old (copies_in flight.old.flying flight.old.words) h to) up seat.new flight.new.words flight.new.flying result }
+    ensures turns { (up : List Bool) → Turns (presents stand.now.network up (seat_of switch.old cells.old) (copies_in flight.old.flying flight.old.words) h to) up (seat_of switch.new cells.new) flight.new.words flight.new.flying result }
     ensures words { Laid (take flight.old.flying flight.old.words) flight.old.words flight.new.flying flight.new.words }
 {
     let port = h.port;
-    let a = seat.from_host(port.number, h.address, to);
-    step_head(stand, seat, flight, port.switch, a)
+    let a = from_host(switch.nonce, &switch.table, port.number, h.address, to);
+    step_head(stand, switch, cells, flight, port.switch, a)
 }
 
 // Kind 5: the copy at a place is taken out, those behind move up one, its switch steps.
-fn take(stand: &Stand, seat: &mut Seat, flight: &mut Flight, place: usize) -> Done
+fn take(
+    stand: &Stand,
+    switch: &mut Switch,
+    cells: &mut [u8],
+    flight: &mut Flight,
+    place: usize,
+) -> Done
     requires { CanTake stand.now.network (copies_in flight.old.flying flight.old.words) place }
-    ensures turns { (up : List Bool) → Turns (takes stand.now.network up seat.old (copies_in flight.old.flying flight.old.words) place) up seat.new flight.new.words flight.new.flying result }
+    ensures turns { (up : List Bool) → Turns (takes stand.now.network up (seat_of switch.old cells.old) (copies_in flight.old.flying flight.old.words) place) up (seat_of switch.new cells.new) flight.new.words flight.new.flying result }
     ensures words { Laid (without place (take flight.old.flying flight.old.words)) flight.old.words flight.new.flying flight.new.words }
 {
     let c = copy_at(&flight.words, place);
@@ -144,7 +166,7 @@ fn take(stand: &Stand, seat: &mut Seat, flight: &mut Flight, place: usize) -> Do
     let a = from_link(port.number, c.source, c.destination, c.header);
     take_out(&mut flight.words, flight.flying, place);
     flight.flying -= 1;
-    step_head(stand, seat, flight, port.switch, a)
+    step_head(stand, switch, cells, flight, port.switch, a)
 }
 
 // What a link's state spares: all but the copies on it, where it is down.
@@ -188,21 +210,37 @@ pub fn head_of(network: &Network, words: &[[u64; 3]], e: Event) -> u8
     }
 }
 
-// A head takes its turn.
+// A head takes its turn: a switch, its filter of any length.
 #[tactic(auto, unfolding(crate::specs::Turn::turn_of, crate::specs::Turn::staying))]
-pub fn turn(stand: &Stand, up: &mut [bool], seat: &mut Seat, flight: &mut Flight, e: Event) -> Done
+pub fn turn_on(
+    stand: &Stand,
+    up: &mut [bool],
+    switch: &mut Switch,
+    cells: &mut [u8],
+    flight: &mut Flight,
+    e: Event,
+) -> Done
     requires { (length up.old ≡ most_links) × CanTurn stand.now.network (copies_in flight.old.flying flight.old.words) e }
-    ensures turns { Turns (turn_of stand.now.network up.old seat.old (copies_in flight.old.flying flight.old.words) e) up.new seat.new flight.new.words flight.new.flying result }
+    ensures turns { Turns (turn_of stand.now.network up.old (seat_of switch.old cells.old) (copies_in flight.old.flying flight.old.words) e) up.new (seat_of switch.new cells.new) flight.new.words flight.new.flying result }
     ensures words { Laid (staying e (take flight.old.flying flight.old.words)) flight.old.words flight.new.flying flight.new.words }
 {
     match e {
         Event::Present(p) => {
             let h = host_of(&stand.network, p.host);
-            present(stand, seat, flight, h, p.to.number())
+            present(stand, switch, cells, flight, h, p.to.number())
         }
-        Event::Take(place) => take(stand, seat, flight, place as usize),
+        Event::Take(place) => take(stand, switch, cells, flight, place as usize),
         Event::Link(s) => set_link(up, flight, s),
     }
+}
+
+// The turn of a bench's head.
+pub fn turn(stand: &Stand, up: &mut [bool], seat: &mut Seat, flight: &mut Flight, e: Event) -> Done
+    requires { (length up.old ≡ most_links) × CanTurn stand.now.network (copies_in flight.old.flying flight.old.words) e }
+    ensures turns { Turns (turn_of stand.now.network up.old seat.old (copies_in flight.old.flying flight.old.words) e) up.new seat.new flight.new.words flight.new.flying result }
+    ensures words { Laid (staying e (take flight.old.flying flight.old.words)) flight.old.words flight.new.flying flight.new.words }
+{
+    turn_on(stand, up, &mut seat.switch, &mut seat.cells, flight, e)
 }
 
 // An event's own refusal, 30 to 33.
