@@ -34,6 +34,14 @@ none : Named 0
 none some = absurd (some refl)
 
 module _ (b : Bench) (c : Counters) (e : Event) where
+  pub late : most_events ≤ c.accepted → event_refusal b c e ≡ 34
+  unfolding event_refusal
+  late h = rw (le-leb most_events c.accepted h)
+
+  pub in_shape_own : c.accepted < most_events → in_shape b ≡ true → counters_fit b.flying c ≡ true → event_refusal b c e ≡ own_refusal b.network b.flying e
+  unfolding event_refusal own_refusal
+  in_shape_own early s f = rw (lt-leb most_events c.accepted early, s, f)
+
   -- its refusals are 34, 28 and 30 to 33
   pub event_named : Named (event_refusal b c e)
   unfolding event_refusal
@@ -43,14 +51,6 @@ module _ (b : Bench) (c : Counters) (e : Event) where
       own (Present p) = either _ (at 30 refl) (either _ (at 31 refl) none)
       own (Take place) = either _ (at 32 refl) none
       own (Link s) = either _ (at 33 refl) none
-
-  pub late : most_events ≤ c.accepted → event_refusal b c e ≡ 34
-  unfolding event_refusal
-  late h = rw (le-leb most_events c.accepted h)
-
-  pub in_shape_own : c.accepted < most_events → in_shape b ≡ true → counters_fit b.flying c ≡ true → event_refusal b c e ≡ own_refusal b.network b.flying e
-  unfolding event_refusal own_refusal
-  in_shape_own early s f = rw (lt-leb most_events c.accepted early, s, f)
 
   -- refused with a number
   refused_by : (n : ℕ) → (n ≡ 0 → ⊥) → happens_as b c (Err (refusal_numbered n)) ≡ happens_by n b e c
