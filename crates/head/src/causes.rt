@@ -37,7 +37,8 @@ impl Switch {
     }
 }
 
-// Refusal 1 of a switch lent as its parts.
+// Refusal 1 of a switch lent as its parts. Not inlined: the test is most of a step, and was measured slower amid the rest of it.
+#[inline(never)]
 pub fn check_switch(
     s: Setup,
     nonce: u32,

@@ -5,7 +5,7 @@
 // slices, so that who keeps them elsewhere copies nothing; a method of `Table` lends its own.
 #![tactic(auto)]
 
-ghost use Rattle.std.specs.Prelude.{false, ◌≡◌, ◌<◌, get_or};
+ghost use Rattle.std.specs.Prelude.{false, ◌≡◌, ◌==◌, ◌<◌, get_or, length};
 ghost use Rattle.table.specs.Table.{Sized, NoneOf, Passed, empty_table, erase_of, learn_of, learned_of, lookup_of, mark_of, marks, may_hold, place_in, put, slot_fits, slot_for, slot_of, slots, table_of, well_formed};
 
 // Slot i is place i of the three arrays, and an empty slot is zero in all three.
@@ -223,8 +223,18 @@ fn mark_of(address: u64) -> usize
     (address ^ (address >> 10) ^ (address >> 20)) as usize % MARKS
 }
 
+// Whether slot i is the first of an address. Cold: few ask it, and the search is kept out of the loop of all 64.
+#[cold]
+#[tactic(auto, unfolding(crate::specs::Table::place_in))]
+fn is_first(addresses: &[u64], address: u64, i: usize) -> bool
+    requires { i < length addresses.now }
+    ensures { result ≡ (slot_of address addresses.now == i) }
+{
+    slot_of(addresses, address) == Some(i)
+}
+
 // Whether slot i is empty, or holds what it may in its address's first slot. A mark that is not set spares the search.
-#[tactic(auto, unfolding(crate::specs::Table::slot_fits, crate::specs::Table::place_in))]
+#[tactic(auto, unfolding(crate::specs::Table::slot_fits))]
 fn slot_fits(addresses: &[u64], ports: &[u8], hops: &[u8], n: u8, i: usize, marked: bool) -> bool
     requires { Sized (table_of addresses.now ports.now hops.now) × (i < slots) × (marked ≡ false → slot_of (get_or addresses.now i 0) addresses.now ≡ i) }
     ensures { result ≡ slot_fits n (table_of addresses.now ports.now hops.now) i }
@@ -235,7 +245,7 @@ fn slot_fits(addresses: &[u64], ports: &[u8], hops: &[u8], n: u8, i: usize, mark
     if address == 0 {
         return port == 0 && hc == 0;
     }
-    may_hold(n, address, port, hc) && (!marked || slot_of(addresses, address) == Some(i))
+    (!marked || is_first(addresses, address, i)) && may_hold(n, address, port, hc)
 }
 
 // Whether it can be the table of a switch of n ports. Each address sets its mark as its slot is passed, and only one that finds its mark

@@ -1,13 +1,16 @@
--- Each chunk of ten bytes is a cell.
-use Rattle.std.proofs.Common.{◌≡◌, true, rules}
-use Rattle.std.specs.Prelude.{◌↔◌, IsTrue, All}
-use Rattle.std.specs.Simd.{first_chunks}
-use Rattle.filter.specs.Filter.{cells}
-use Rattle.filter.specs.Triple.{width, is_cell}
-use Rattle.filter.proofs.Cells.{all_chunks}
+-- Each chunk of ten bytes is a cell (proofs/Cells).
+use Rattle.std.proofs.Common.{◌∙◌, sym}
+use Rattle.filter.proofs.Cells.{pass_start, pass_next, pass_fails, pass_end}
 use Rattle.filter.proofs.cells_fit.Goals as goal
 
 pub returns : goal.returns
-returns c =
-    let each : IsTrue c.all.result ↔ All (λ b. is_cell b ≡ true) (first_chunks width (cells width c.args.filter.now) c.args.filter.now) = search rules in
-    all_chunks _ _ _ each
+returns c = pass_end _ c.as_chunks.ensures.front c.loop-cell.cell-index c.loop-cell.invariant c.loop-cell-test.false c.loop-cell.auto.cell-index-end
+
+pub loop-cell-init : goal.loop-cell-init
+loop-cell-init c = pass_start c.args.filter.now
+
+pub returns-then-not-cell_fits : goal.returns-then-not-cell_fits
+returns-then-not-cell_fits c = pass_fails _ c.as_chunks.ensures.front c.loop-cell.cell-index c.loop-cell-test.true (sym c.if-not-cell_fits.true ∙ c.cell_fits.ensures)
+
+pub loop-cell-preserved : goal.loop-cell-preserved
+loop-cell-preserved c = pass_next _ c.as_chunks.ensures.front c.loop-cell.cell-index c.loop-cell.invariant c.loop-cell-test.true (sym c.if-not-cell_fits.false ∙ c.cell_fits.ensures)
